@@ -14,3 +14,4 @@ pub mod WordsOfLine
 pub mod Texts
 pub mod RowTexts
 pub mod Steps
+pub mod TableLines

@@ -5,12 +5,15 @@ use Rattle.fl_base.specs.declared.types.KeyRange.{KeyRange}
 use Rattle.fl_base.specs.declared.types.Span.{Span}
 use Rattle.fl_words.specs.Command as command
 use Rattle.fl_words.specs.Grammar as grammar
+use Rattle.fl_words.specs.Grammar.{◌>>=◌}
 use Rattle.fl_model.specs.Record.{bytes_equal}
 use Rattle.std.specs.Prelude.{codes}
 use Rattle.fl_script.specs.CommandView.{fault_view, command_view}
 use Rattle.fl_script.specs.declared.command.Command.{Command}
 use Rattle.fl_script.specs.declared.command.Command.TheVariants.{Table, Put}
 use Rattle.fl_script.specs.declared.command.LineFault.{LineFault}
+use Rattle.fl_script.specs.declared.settings.RingNumbers.{RingNumbers}
+use Rattle.fl_script.specs.declared.settings.LookupNumbers.{LookupNumbers}
 
 -- a column number in a list
 abbrev pub is_column : List ℕ → Bool
@@ -58,6 +61,30 @@ HasRange words range span =
 abbrev pub HasNoRange : List (List ℕ) → grammar.LineFault → Type 0
 HasNoRange words fault =
     (f : KeyRange → Option Span → Result command.Command grammar.LineFault) → grammar.with_range words f ≡ Err fault
+
+-- the numbers of a table line up to those of its rings, and the others but for the log's, whatever is made of them
+abbrev pub ring_numbers : List ℕ → List ℕ → List ℕ → List ℕ → (ℕ → ℕ → ℕ → ℕ → Result command.Command grammar.LineFault) → Result command.Command grammar.LineFault
+ring_numbers key rows index var f = grammar.number key >>= λ k. grammar.number rows >>= λ d. grammar.number index >>= λ i. grammar.number var >>= λ v. f k d i v
+
+abbrev pub lookup_numbers : List ℕ → List ℕ → List ℕ → List ℕ → List ℕ → (ℕ → ℤ → ℕ → ℕ → ℕ → Result command.Command grammar.LineFault) → Result command.Command grammar.LineFault
+lookup_numbers bits base width error blob f =
+    grammar.number bits >>= λ n. grammar.signed base >>= λ b. grammar.number width >>= λ w. grammar.number error >>= λ e. grammar.number blob >>= λ l. f n b w e l
+
+abbrev pub HasRings : List ℕ → List ℕ → List ℕ → List ℕ → RingNumbers → Type 0
+HasRings key rows index var n =
+    (f : ℕ → ℕ → ℕ → ℕ → Result command.Command grammar.LineFault) → ring_numbers key rows index var f ≡ f n.key n.rows n.index n.var
+
+abbrev pub HasNoRings : List ℕ → List ℕ → List ℕ → List ℕ → grammar.LineFault → Type 0
+HasNoRings key rows index var fault =
+    (f : ℕ → ℕ → ℕ → ℕ → Result command.Command grammar.LineFault) → ring_numbers key rows index var f ≡ Err fault
+
+abbrev pub HasLookup : List ℕ → List ℕ → List ℕ → List ℕ → List ℕ → LookupNumbers → Type 0
+HasLookup bits base width error blob n =
+    (f : ℕ → ℤ → ℕ → ℕ → ℕ → Result command.Command grammar.LineFault) → lookup_numbers bits base width error blob f ≡ f n.bits n.base n.width n.error n.blob
+
+abbrev pub HasNoLookup : List ℕ → List ℕ → List ℕ → List ℕ → List ℕ → grammar.LineFault → Type 0
+HasNoLookup bits base width error blob fault =
+    (f : ℕ → ℤ → ℕ → ℕ → ℕ → Result command.Command grammar.LineFault) → lookup_numbers bits base width error blob f ≡ Err fault
 
 -- the lines of the operators and of load, or an unknown one
 abbrev pub operator_line : List ℕ → List (List ℕ) → Result command.Command grammar.LineFault

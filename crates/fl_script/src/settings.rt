@@ -2,7 +2,7 @@
 ghost use Rattle.std.specs.Prelude.{◌≡◌, ◌≤◌, ℕ, List, map, [], length, true, Some, None, Ok, Err, IsOk, MatchResult};
 ghost use Rattle.std.specs.List.{All};
 ghost use Rattle.fl_words.specs.Grammar as grammar;
-ghost use Rattle.fl_script.specs.Lines.{line_view, leaves, word_of};
+ghost use Rattle.fl_script.specs.Lines.{line_view, leaves, word_of, HasRings, HasNoRings, HasLookup, HasNoLookup};
 ghost use Rattle.fl_script.specs.CommandView.{command_view, fault_view};
 ghost use Rattle.fl_words.specs.Command as command;
 
@@ -70,6 +70,52 @@ fn maybe_number(word: Option<&[u8]>) -> Result<Option<u64>, LineFault>
     }
 }
 
+/// The numbers of a table line up to those of its rings.
+struct RingNumbers {
+    key: u64,
+    rows: u64,
+    index: u64,
+    var: u64,
+}
+
+fn ring_numbers(key: &[u8], rows: &[u8], index: &[u8], var: &[u8]) -> Result<RingNumbers, LineFault>
+    ensures { MatchResult result (λ n. HasRings key.now rows.now index.now var.now n) (λ e. HasNoRings key.now rows.now index.now var.now (fault_view e)) }
+{
+    Ok(RingNumbers {
+        key: number(key)?,
+        rows: number(rows)?,
+        index: number(index)?,
+        var: number(var)?,
+    })
+}
+
+/// The numbers behind those, but for the log's.
+struct LookupNumbers {
+    bits: u64,
+    base: i64,
+    width: u64,
+    error: u64,
+    blob: u64,
+}
+
+fn lookup_numbers(
+    bits: &[u8],
+    base: &[u8],
+    width: &[u8],
+    error: &[u8],
+    blob: &[u8],
+) -> Result<LookupNumbers, LineFault>
+    ensures { MatchResult result (λ n. HasLookup bits.now base.now width.now error.now blob.now n) (λ e. HasNoLookup bits.now base.now width.now error.now blob.now (fault_view e)) }
+{
+    Ok(LookupNumbers {
+        bits: number(bits)?,
+        base: signed(base)?,
+        width: number(width)?,
+        error: number(error)?,
+        blob: number(blob)?,
+    })
+}
+
 /// `table` NAME KEY COLUMNS DATA INDEX VAR BITS BASE WIDTH ERROR BLOB, and optionally `index2` and then `rlc` LOG
 pub(crate) fn table_line(words: &[&[u8]], room: &mut LineRoom) -> Result<Command, LineFault>
     requires { All (λ word. length word.now ≤ 4096) words.now }
@@ -96,17 +142,30 @@ pub(crate) fn table_line(words: &[&[u8]], room: &mut LineRoom) -> Result<Command
     let name = name(table)?;
     let log = log_word_in(others)?;
     room.copy(columns);
+    let RingNumbers {
+        key,
+        rows,
+        index,
+        var,
+    } = ring_numbers(key, rows, index, var)?;
+    let LookupNumbers {
+        bits,
+        base,
+        width,
+        error,
+        blob,
+    } = lookup_numbers(bits, base, width, error, blob)?;
     Ok(Command::Table {
         name,
-        key: number(key)?,
-        rows: number(rows)?,
-        index: number(index)?,
-        var: number(var)?,
-        bits: number(bits)?,
-        base: signed(base)?,
-        width: number(width)?,
-        error: number(error)?,
-        blob: number(blob)?,
+        key,
+        rows,
+        index,
+        var,
+        bits,
+        base,
+        width,
+        error,
+        blob,
         full: has_full_index(others),
         log: maybe_number(log)?,
     })
