@@ -1,6 +1,7 @@
 -- Data pages, by their bytes.
-use Rattle.std.proofs.Common.{◌≡◌, ℕ, ◌+◌, ◌-◌, ◌*◌, ◌/◌, ◌^◌, ◌<◌, ◌≤◌, Bool, true, Option, List, ◌++◌, length, take, drop, replicate, slice_range, refl, sym, subst, ap, ◌∙◌, arith, append_assoc, length-append, length-drop}
+use Rattle.std.proofs.Common.{◌≡◌, ℕ, ◌+◌, ◌-◌, ◌*◌, ◌/◌, ◌^◌, ◌<◌, ◌≤◌, Bool, true, false, IsTrue, ◌↔◌, Option, List, ◌++◌, length, take, drop, replicate, slice_range, refl, sym, subst, ap, ◌∙◌, arith, append_assoc, length-append, length-drop}
 use Rattle.std.specs.List.{flat_map}
+use Rattle.std.proofs.lemmas.Bool.{false≢true}
 use Rattle.std.proofs.Math.Nat.{le-div_iff_mul-le}
 use Rattle.std.proofs.Math.Seq.{take-add}
 use Rattle.std.proofs.lemmas.List.{drop-drop, length-take-le}
@@ -123,3 +124,34 @@ pub rows_seen : (layout other : RowLayout) (page bytes : List ℕ) (count : ℕ)
 rows_seen layout other page bytes count bytes_are layout_is count_is =
     ap (λ (l : List ℕ). rows_from count other (drop 16 l)) bytes_are ∙ ap (λ (l : RowLayout). rows_from count l (drop 16 page)) layout_is
     ∙ ap (λ (k : ℕ). rows_from k layout (drop 16 page)) count_is
+
+-- ---- a test of a page
+
+module _ (key : KeyWidth) (types : List ColumnType) (blobs : Bool) (page : List ℕ) (number : ℕ) (buckets : Option Buckets) (least : 24 ≤ length page) where
+  -- where its rows end
+  pub rows_end : (rows len : ℕ) → rows ≡ page_count page → len ≡ layout_len (layout_with key types blobs) → IsGoodPage (layout_with key types blobs) number page → 16 + rows * len + 8 ≤ length page
+  rows_end rows len rows_is len_is good =
+      subst (λ (k : ℕ). 16 + k * len + 8 ≤ length page) (sym rows_is)
+      (subst (λ (k : ℕ). 16 + page_count page * k + 8 ≤ length page) (sym len_is) (rows_fit key types blobs page number buckets least (page_count page) good.room))
+
+  module _ (small : number < 2 ^ 32) (short : length page < 65536) where
+    none_of : (IsDataPage (layout_with key types blobs) buckets number page → ⊥) → IsTrue false ↔ IsDataPage (layout_with key types blobs) buckets number page
+    none_of never = (λ so. absurd (false≢true so), λ is. absurd (never is))
+
+    pub ill_formed : (IsGoodPage (layout_with key types blobs) number page → ⊥) → IsTrue false ↔ IsDataPage (layout_with key types blobs) buckets number page
+    ill_formed other = none_of (λ is. other (data_good key types blobs page number buckets least is small short))
+
+    pub other_bits : (read bitmap : ℕ) (rows : List Row) → rows ≡ rows_in (layout_with key types blobs) page → bitmap ≡ bitmap_in buckets rows → bitmap < 2 ^ 64 → read ≡ from_le_bytes w64 (slice_range page 8 16)
+        → (read ≡ bitmap → ⊥) → IsTrue false ↔ IsDataPage (layout_with key types blobs) buckets number page
+    other_bits read bitmap rows same bitmap_is fits read_is other = none_of (λ is.
+        let bits = data_bits key types blobs page number buckets least is small short in
+        other (read_is ∙ bits_read page bitmap fits (bits ∙ ap (le 8) (sym (bitmap_is ∙ ap (bitmap_in buckets) same)))))
+
+    pub not_plain : (plain : Bool) (rows : List Row) → rows ≡ rows_in (layout_with key types blobs) page → plain ≡ are_plain rows → plain ≡ false → IsTrue false ↔ IsDataPage (layout_with key types blobs) buckets number page
+    not_plain plain rows same plain_is other = none_of (λ is. false≢true (sym other ∙ plain_is ∙ ap are_plain same ∙ data_plain key types blobs page number buckets least is small short))
+
+    pub not_zero : (zero_there : Bool) → zero_there ≡ all_are 0 (slice_range page 6 8) → zero_there ≡ false → IsTrue zero_there ↔ IsDataPage (layout_with key types blobs) buckets number page
+    not_zero zero_there is_there other = (
+      λ so. absurd (false≢true (sym other ∙ so)),
+      λ is. is_there ∙ data_zero key types blobs page number buckets least is small short,
+    )

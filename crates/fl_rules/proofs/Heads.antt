@@ -7,7 +7,7 @@ use Rattle.fl_mark.specs.declared.page_state.PageState.{PageState}
 use Rattle.fl_ring.specs.declared.front.Front.{Front}
 use Rattle.fl_ring.specs.declared.scan.Scan.{Scan}
 use Rattle.fl_ring.specs.Finding.{kept_pages}
-use Rattle.fl_ring.specs.Front.{IsFront}
+use Rattle.fl_ring.specs.Front.{IsFront, blanks}
 use Rattle.fl_ring.specs.Head.{counts_full, heads, page_in}
 use Rattle.fl_frame.specs.Reads.{OnlyReads}
 use Rattle.fl_ring.specs.Ring.{Shape, IsShape, room}
@@ -24,6 +24,24 @@ pub stepped_for : (page : ℕ → List ℕ) (r : Shape) (head i count : ℕ) (ol
 stepped_for page r head i count old new state e step is here =
     subst (λ (n : ℕ). IsFront (λ k. state_of_page (page (page_in r head k))) n (i + 1) new) e
     (step (λ k. state_of_page (page (page_in r head k))) (subst (λ (n : ℕ). IsFront (λ k. state_of_page (page (page_in r head k))) n i old) (sym e) is) here)
+
+-- a page that should be blank isn't
+pub gap_for : (page : ℕ → List ℕ) (r : Shape) (head i : ℕ) (old new : Front) (state : PageState) → i < r.per_block → new ≡ old → (old.sealed < i) × (blanks state ≡ false)
+    → state ≡ state_of_page (page (page_in r head i)) → IsFront (λ k. state_of_page (page (page_in r head k))) r.per_block i old → IsOrdered page r head (record { front = new; ordered = i })
+gap_for page r head i old new state lt same gap here is = record {
+  within = omega (arith, lt);
+  front = subst (IsFront (λ k. state_of_page (page (page_in r head k))) r.per_block i) (sym same) is;
+  gap = λ before. (subst (λ (x : Front). x.sealed < i) (sym same) gap.0, ap blanks (sym here) ∙ gap.1);
+}
+
+-- all pages are in order
+pub ordered_for : (page : ℕ → List ℕ) (r : Shape) (head i count : ℕ) (front : Front) → count ≡ r.per_block → i ≤ count → count ≤ i
+    → IsFront (λ k. state_of_page (page (page_in r head k))) r.per_block i front → IsOrdered page r head (record { front = front; ordered = count })
+ordered_for page r head i count front e le ge is = record {
+  within = omega (arith, e);
+  front = subst (λ (n : ℕ). IsFront (λ k. state_of_page (page (page_in r head k))) r.per_block n front) (let all : i ≡ count = omega (arith, le, ge) in all) is;
+  gap = λ before. absurd (omega (arith, before, e));
+}
 
 -- the marks by the scan of the blocks and the pages of the head
 pub marks_for : (f g : FlashState) (r : Shape) (n : ℕ) (scan : Scan) (count head full_blocks kept per_block : ℕ) (pages : HeadPages)

@@ -1,5 +1,5 @@
 -- The keys of pages, one after another.
-use Rattle.std.proofs.Common.{◌≡◌, ℕ, zero, suc, ◌+◌, ◌<◌, true, inl, inr, Option, Some, List, [], ◌∷◌, length, ap, sym, ◌∙◌, subst, arith}
+use Rattle.std.proofs.Common.{◌≡◌, ℕ, zero, suc, ◌+◌, ◌<◌, true, false, inl, inr, refl, Option, Some, List, [], ◌∷◌, length, ap, sym, ◌∙◌, subst, arith}
 use Rattle.std.proofs.lemmas.Bool.{cases_eq}
 use Rattle.std.specs.List.{slice_get}
 use Rattle.fl_mark.specs.Mark.{state_of_page}
@@ -28,6 +28,10 @@ last_at (r ∷ (x ∷ rows)) before (suc n) row len e = last_at (x ∷ rows) (So
 pub after_committed : (layout : RowLayout) (page : List ℕ) (before : Option ℕ) (rows : List Row) (key : ℕ) → commits (state_of_page page) ≡ true → rows ≡ rows_in layout page
     → last_in before rows ≡ Some key → Some key ≡ last_after layout page before
 after_committed layout page before rows key committed same last = rw committed (sym last ∙ ap (last_in before) same)
+
+-- no other's does
+pub after_other : (layout : RowLayout) (page : List ℕ) (before : Option ℕ) → commits (state_of_page page) ≡ false → before ≡ last_after layout page before
+after_other layout page before other = rw other refl
 
 -- the last key of one page more
 pub last_more : (layout : RowLayout) (page : ℕ → List ℕ) (r : Shape) (m : Marks) (i : ℕ) → last_key layout page r m (i + 1) ≡ last_after layout (page (kept_page r m i)) (last_key layout page r m i)

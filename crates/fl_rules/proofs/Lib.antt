@@ -16,6 +16,7 @@ pub mod OwnNumbers
 pub mod PageRows
 pub mod Parts
 pub mod RingRules
+pub mod Rooms
 pub mod RowsBack
 pub mod Stops
 pub mod TablePages

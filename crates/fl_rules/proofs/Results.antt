@@ -21,3 +21,6 @@ no_fault h = cc
 -- .. and one that failed did so whatever it answers else
 pub same_fault : {A B E : Type 0} {d e : E} → ◌≡◌ {A = Result A E} (Err d) (Err e) → ◌≡◌ {A = Result B E} (Err d) (Err e)
 same_fault {d = d} {e = e} h = let same : d ≡ e = cc in rw same refl
+
+pub same_flash : {A B : Type 0} {d e : FlashFault} → ◌≡◌ {A = Result A FlashFault} (Err d) (Err e) → ◌≡◌ {A = Result B Stop} (Err (Flash d)) (Err (Flash e))
+same_flash {d = d} {e = e} h = let same : d ≡ e = cc in rw same refl

@@ -1,5 +1,5 @@
 -- Data pages in the words of a table.
-use Rattle.std.proofs.Common.{◌≡◌, ℕ, ◌-◌, ◌/◌, ◌%◌, ◌^◌, ◌<◌, ◌≤◌, ◌==◌, cond, IsTrue, pos, Option, Some, None, option_map, unwrap_or, slice_get, List, [], ◌∷◌, length, map, fold, replicate, bit_or, refl, sym, subst, ap, ◌∙◌, arith, lit≤}
+use Rattle.std.proofs.Common.{◌≡◌, ℕ, ◌-◌, ◌/◌, ◌%◌, ◌^◌, ◌<◌, ◌≤◌, ◌==◌, cond, Bool, IsTrue, ◌↔◌, pos, Option, Some, None, option_map, unwrap_or, slice_get, List, [], ◌∷◌, length, map, fold, replicate, bit_or, refl, sym, subst, ap, ◌∙◌, arith, lit≤}
 use Rattle.std.specs.List.{AllByRecursion}
 use Rattle.std.proofs.Math.Nat.{mod-lt, mod-eq_of_lt, one-le-pow, pow-le-pow_right}
 use Rattle.std.proofs.lemmas.Bool.{eqb-true, false_from_ne_true, eq-eqb}
@@ -111,3 +111,10 @@ module _ (plan : Plan) (layout : RowLayout) (buckets : Option Buckets) (number :
         plain = is.plain;
         bytes = is.bytes ∙ sym (body-same is.entries (map stored_row is.entries) refl);
       }
+
+-- a test of the one is a test of the other
+pub as_entries : (plan : Plan) (layout : RowLayout) (buckets : Option Buckets) (number : ℕ) (page : List ℕ) {b : Bool} → HasForm plan layout buckets (length page) → (IsTrue b ↔ IsDataPage layout buckets number page) → IsTrue b ↔ HoldsEntries plan number page
+as_entries plan layout buckets number page form exact = (
+  λ so. holds_entries plan layout buckets number page form (exact.0 so),
+  λ is. exact.1 (is_data_page plan layout buckets number page form is),
+)

@@ -236,3 +236,9 @@ returns-clause-within g c = c.in_ok-marks.ensures.within
 
 pub returns-clause-off : goal.returns-clause-off
 returns-clause-off g c = λ off. absurd (no_fault (c.in_ok-marks.ensures.off off).0)
+
+pub read_marks-requires-clause-lies : goal.read_marks-requires-clause-lies
+read_marks-requires-clause-lies g c = c.requires.lies
+
+pub read_marks-requires-clause-room : goal.read_marks-requires-clause-room
+read_marks-requires-clause-room g c = c.requires.room

@@ -1,16 +1,21 @@
-use Rattle.std.proofs.Common.{◌≡◌, ℕ, List, ◌+◌, ◌-◌, length, IsTrue, sym, ◌∙◌, ap, arith}
+use Rattle.std.proofs.Common.{◌≡◌, ℕ, List, ◌+◌, ◌-◌, length, IsTrue, sym, ◌∙◌, ap, arith, subst, refl, ◌<◌, ◌≤◌}
 use Rattle.fl_flash.specs.Flash.{page_at}
 use Rattle.fl_ring.specs.Newest.{page_back}
 use Rattle.fl_ring.specs.Place.{shape_of}
 use Rattle.fl_ring.proofs.Exists.{page_exists}
-use Rattle.fl_ring.proofs.ReadsInTurn.{fewer_reads}
-use Rattle.fl_frame.proofs.ReadsInTurn.{more_reads, same_page, told_still}
-use Rattle.fl_rules.specs.Reaches.{reach, reach_from}
+use Rattle.fl_ring.proofs.ReadsInTurn.{fewer_reads, mark_fits}
+use Rattle.fl_frame.proofs.ReadsInTurn.{more_reads, same_page, told_still, no_reads}
+use Rattle.fl_rules.specs.Reaches.{reach, reach_from, AreReaches}
 use Rattle.fl_rules.specs.References.{content_room}
 use Rattle.fl_rules.proofs.BlobReaches.{reach_next, listed_next}
 use Rattle.std.proofs.lemmas.Result.{err_from_is_err_and}
-use Rattle.fl_rules.proofs.OneMorePage.{one_read, read_fails}
+use Rattle.fl_rules.proofs.OneMorePage.{one_read, read_fails, look_room, page_long, some_more, more_few, all_below, at_most}
+use Rattle.fl_rules.proofs.Rooms.{next_small, sum_small, index_small, offset_small}
+use borrow.Author.Count.{below_none}
 use Rattle.fl_rules.proofs.reaches.find_reaches.Goals as goal
+
+listed-on : {now old kept i : ℕ} → now ≡ old → kept ≤ old → i < kept → i < now
+listed-on same listed lt = omega (arith, same, listed, lt)
 
 pub look-requires-clause-exists : goal.look-requires-clause-exists
 look-requires-clause-exists g c =
@@ -68,3 +73,39 @@ returns-clause-room g c = c.loop-i.invariant.room
 
 pub returns-clause-fails : goal.returns-clause-fails
 returns-clause-fails g c = tt
+
+pub look-requires-clause-room : goal.look-requires-clause-room
+look-requires-clause-room g c = look_room c.args.ring.now (g.F.Flash.state c.args.flash.now) (g.F.Flash.state c.loop-i.flash) c.loop-i.i _ c.requires.lies c.loop-i.invariant.reads c.loop-i.invariant.room
+
+pub look-requires-clause-size : goal.look-requires-clause-size
+look-requires-clause-size g c = mark_fits _ _ c.loop-i.invariant.room c.args.ring.now.served.size
+
+pub page_back-page-requires-clause-some : goal.page_back-page-requires-clause-some
+page_back-page-requires-clause-some g c = some_more _
+
+pub page_back-page-requires-clause-few : goal.page_back-page-requires-clause-few
+page_back-page-requires-clause-few g c = more_few c.loop-i-test.true c.requires.within.kept
+
+pub reach_from-reach-requires-clause-size : goal.reach_from-reach-requires-clause-size
+reach_from-reach-requires-clause-size g c = page_long c.bytes.result.now c.look.new.buf.bytes c.bytes.ensures (c.look.ensures.room ∙ c.loop-i.invariant.room) c.args.ring.now.served.size
+
+pub returns-clause-reaches : goal.returns-clause-reaches
+returns-clause-reaches g c = λ told. subst (λ (k : ℕ). AreReaches (page_at (g.F.Flash.state c.args.flash.now)) (shape_of c.args.ring.now) c.args.m.at k c.loop-i.reaches) (all_below c.loop-i.auto.i-end c.loop-i-test.false) (c.loop-i.invariant.reaches told)
+
+pub loop-i-init : goal.loop-i-init
+loop-i-init g c = record { reads = no_reads (g.F.Flash.state c.args.flash.now); room = c.requires.room; few = at_most 0; reach = λ told. refl; reaches = λ told. below_none _ }
+
+pub overflow_add-i : goal.overflow_add-i
+overflow_add-i g c = record { fits = next_small c.loop-i.i c.args.m.kept c.args.ring.now.first_block c.args.ring.now.blocks c.args.ring.now.per_block c.loop-i-test.true c.requires.within.kept c.args.ring.now.reach }
+
+pub reach_from-reach-requires-clause-few : goal.reach_from-reach-requires-clause-few
+reach_from-reach-requires-clause-few g c = sum_small c.loop-i.i c.loop-i.invariant.few (next_small c.loop-i.i c.args.m.kept c.args.ring.now.first_block c.args.ring.now.blocks c.args.ring.now.per_block c.loop-i-test.true c.requires.within.kept c.args.ring.now.reach)
+
+pub overflow_cast-reaches : goal.overflow_cast-reaches
+overflow_cast-reaches g c = record { fits = index_small (next_small c.loop-i.i c.args.m.kept c.args.ring.now.first_block c.args.ring.now.blocks c.args.ring.now.per_block c.loop-i-test.true c.requires.within.kept c.args.ring.now.reach) }
+
+pub offset_bounds-reaches-i : goal.offset_bounds-reaches-i
+offset_bounds-reaches-i g c = record { fits = offset_small c.loop-i.i (next_small c.loop-i.i c.args.m.kept c.args.ring.now.first_block c.args.ring.now.blocks c.args.ring.now.per_block c.loop-i-test.true c.requires.within.kept c.args.ring.now.reach) }
+
+pub bounds-reaches-i : goal.bounds-reaches-i
+bounds-reaches-i g c = listed-on c.loop-i.auto.reaches c.requires.listed c.loop-i-test.true

@@ -129,3 +129,9 @@ returns-clause-within g c = c.in_ok-n.ensures.within
 
 pub returns-clause-off : goal.returns-clause-off
 returns-clause-off g c = λ off. absurd (no_fault (c.in_ok-n.ensures.off off).0)
+
+pub check_numbering-requires-clause-lies : goal.check_numbering-requires-clause-lies
+check_numbering-requires-clause-lies g c = c.requires.lies
+
+pub check_numbering-requires-clause-room : goal.check_numbering-requires-clause-room
+check_numbering-requires-clause-room g c = c.requires.room

@@ -1,4 +1,4 @@
-use Rattle.std.proofs.Common.{ℕ, List, Option, IfNone, sym, subst, ◌+◌}
+use Rattle.std.proofs.Common.{ℕ, List, Option, IfNone, sym, subst, ◌+◌, inl, refl}
 use Rattle.std.proofs.lemmas.Result.{err_from_is_err_and, IfErr-weaker}
 use Rattle.fl_flash.specs.Flash.{page_at}
 use Rattle.fl_ring.specs.Place.{shape_of}
@@ -13,7 +13,8 @@ use Rattle.fl_ring.proofs.ReadsInTurn.{fewer_reads}
 use Rattle.fl_rules.specs.Stop.{IfFlash}
 use Rattle.fl_rules.proofs.Results.{flash_so}
 use Rattle.fl_rules.proofs.LooksChangeNothing.{fails_later}
-use Rattle.fl_rules.proofs.OneMorePage.{few_back, more_of}
+use Rattle.fl_rules.proofs.OneMorePage.{few_back, more_of, some_back, under}
+use Rattle.std.proofs.lemmas.Option.{MatchOption-at_some}
 use Rattle.fl_rules.proofs.rule_2_state.check_states.Goals as goal
 
 pub returns-in-None-clause-broken : goal.returns-in-None-clause-broken
@@ -109,3 +110,26 @@ returns-in-None-clause-fails g c =
     let last = g.F.Flash.state c.check_head.new.flash in
     IfErr-weaker c.check_head.result (IfFlash (λ e. ReadFails second e last)) (IfFlash (λ e. ReadFails f e last))
     (λ stop. flash_so (λ e. ReadFails second e last) (λ e. ReadFails f e last) stop (λ e. fails_later f second last e (looks_by f second c.args.m.kept c.first_unsealed.ensures.reads))) c.check_head.ensures.fails
+
+pub page_back-requires-clause-some : goal.page_back-requires-clause-some
+page_back-requires-clause-some g c = some_back (MatchOption-at_some _ _ c.in-Some.i c.in-Some.is c.in_ok-unsealed.ensures.within)
+
+pub returns-in-Some-clause-states : goal.returns-in-Some-clause-states
+returns-in-Some-clause-states g c = tt
+
+pub returns-in-Some-clause-broken : goal.returns-in-Some-clause-broken
+returns-in-Some-clause-broken g c =
+    rw c.broken.ensures (λ told. (
+      refl,
+      inl (record {
+        i = c.in-Some.i;
+        first = MatchOption-at_some _ _ c.in-Some.i c.in-Some.is (c.in_ok-unsealed.ensures.some told);
+        is = c.page_back.ensures.page;
+      }),
+    ))
+
+pub returns-in-Some-clause-fails : goal.returns-in-Some-clause-fails
+returns-in-Some-clause-fails g c = rw c.broken.ensures tt
+
+pub overflow_sub-m : goal.overflow_sub-m
+overflow_sub-m g c = under (MatchOption-at_some _ _ c.in-Some.i c.in-Some.is c.in_ok-unsealed.ensures.within)

@@ -9,9 +9,9 @@ use Rattle.fl_ring.specs.Looking.{state_at}
 use Rattle.fl_ring.specs.Place.{shape_of}
 use Rattle.fl_ring.specs.Ring.{Shape}
 use Rattle.fl_ring.proofs.Exists.{page_exists}
-use Rattle.fl_ring.proofs.ReadsInTurn.{fewer_reads}
+use Rattle.fl_ring.proofs.ReadsInTurn.{fewer_reads, mark_fits}
 use Rattle.fl_rules.specs.States.{IsBlankAfter, AreBlank, page_after}
-use Rattle.fl_rules.proofs.OneMorePage.{none_read, one_read, read_fails, state_read}
+use Rattle.fl_rules.proofs.OneMorePage.{none_read, one_read, read_fails, state_read, look_room}
 use Rattle.fl_rules.proofs.rule_2_state.first_written.Goals as goal
 
 -- ---- the pages so far
@@ -30,6 +30,9 @@ blank-to page r at from j to end before k low high = before k low (omega (arith,
 
 in-ring : (p first blocks per_block : ℕ) → p < first * per_block + blocks * per_block → p < (first + blocks) * per_block
 in-ring p first blocks per_block lt = omega (arith, lt, add-mul first blocks per_block)
+
+before-end : {j to room : ℕ} → j < to → to ≤ room → j ≤ room
+before-end lt few = omega (arith, lt, few)
 
 -- ---- the loop
 
@@ -141,3 +144,15 @@ returns-clause-within g c = tt
 
 pub returns-clause-fails : goal.returns-clause-fails
 returns-clause-fails g c = tt
+
+pub page_after-page-requires-clause-place : goal.page_after-page-requires-clause-place
+page_after-page-requires-clause-place g c = c.requires.place
+
+pub page_after-page-requires-clause-few : goal.page_after-page-requires-clause-few
+page_after-page-requires-clause-few g c = before-end c.loop-j-test.true c.requires.few
+
+pub look-requires-clause-room : goal.look-requires-clause-room
+look-requires-clause-room g c = look_room c.args.ring.now (g.F.Flash.state c.args.flash.now) (g.F.Flash.state c.loop-j.flash) c.loop-j.j _ c.requires.lies c.loop-j.invariant.reads c.loop-j.invariant.room
+
+pub look-requires-clause-size : goal.look-requires-clause-size
+look-requires-clause-size g c = mark_fits _ _ c.loop-j.invariant.room c.args.ring.now.served.size

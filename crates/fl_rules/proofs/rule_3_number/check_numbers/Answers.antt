@@ -15,6 +15,7 @@ use Rattle.fl_ring.proofs.ReadsInTurn.{fewer_reads}
 use Rattle.fl_rules.proofs.Results.{flash_so}
 use Rattle.fl_rules.proofs.OneMorePage.{more_of}
 use Rattle.fl_rules.proofs.LooksChangeNothing.{fails_later}
+use Rattle.std.proofs.lemmas.Option.{MatchOption-at_some}
 use Rattle.fl_rules.proofs.rule_3_number.check_numbers.Goals as goal
 
 pub returns-in-Some-clause-numbers : goal.returns-in-Some-clause-numbers
@@ -115,3 +116,12 @@ returns-in-None-clause-reads g c = fewer_reads (g.F.Flash.state c.args.flash.now
 
 pub returns-in-None-clause-room : goal.returns-in-None-clause-room
 returns-in-None-clause-room g c = c.find_newest.ensures.room
+
+pub check_by-requires-clause-some : goal.check_by-requires-clause-some
+check_by-requires-clause-some g c = (MatchOption-at_some _ _ c.in-Some.newest c.in-Some.is c.in_ok-newest.ensures.within).0
+
+pub check_by-requires-clause-back : goal.check_by-requires-clause-back
+check_by-requires-clause-back g c = (MatchOption-at_some _ _ c.in-Some.newest c.in-Some.is c.in_ok-newest.ensures.within).1
+
+pub check_from-requires : goal.check_from-requires
+check_from-requires g c = record { within = c.requires.within }

@@ -1,20 +1,24 @@
-use Rattle.std.proofs.Common.{◌≡◌, ◌-◌, ◌≤◌, refl, sym, ◌∙◌, ap, arith, ℕ, subst}
+use Rattle.std.proofs.Common.{◌≡◌, ◌-◌, ◌≤◌, refl, sym, ◌∙◌, ap, arith, ℕ, subst, ◌+◌, ◌*◌, ◌^◌, ◌<◌}
 use Rattle.std.proofs.lemmas.Bool.{false≢true}
 use Rattle.std.proofs.lemmas.Result.{err_from_is_err_and}
 use Rattle.fl_ring.proofs.Exists.{page_exists}
-use Rattle.fl_ring.proofs.ReadsInTurn.{fewer_reads}
+use Rattle.fl_ring.proofs.ReadsInTurn.{fewer_reads, mark_fits}
 use Rattle.fl_flash.specs.Flash.{page_at}
 use Rattle.fl_ring.specs.Place.{shape_of}
 use Rattle.fl_ring.specs.Looking.{state_at}
 use Rattle.fl_ring.specs.Newest.{commits, number_of}
 use Rattle.fl_frame.proofs.ReadsInTurn.{more_reads, no_reads}
 use Rattle.fl_rules.specs.Marks.{kept_page}
-use Rattle.fl_rules.proofs.OneMorePage.{one_read, read_fails, some_back, few_back, no_read, bytes_read, state_read, all_below}
+use Rattle.fl_rules.proofs.OneMorePage.{one_read, read_fails, some_back, few_back, no_read, bytes_read, state_read, all_below, look_room, number_long}
 use Rattle.fl_rules.proofs.OwnNumbers.{all_numbered, one_numbered, its_own, too_low, not_own, own_told}
 use Rattle.fl_rules.specs.Claims.{AllBelow}
 use Rattle.fl_rules.specs.Numbers.{HasItsNumber}
+use Rattle.std.proofs.Math.Nat.{add-mul}
 use Rattle.fl_rules.proofs.rule_3_number.first_misnumbered.Goals as goal
 use Rattle.fl_rules.proofs.rule_3_number.first_misnumbered.Goals.{then-is_committed+else-from-next, else-is_committed}
+
+wide-sum : (i first blocks pages : ℕ) {wide number wide_back kept : ℕ} → wide ≡ number → number < 2 ^ 32 → wide_back ≡ kept - i → kept < blocks * pages → (first + blocks) * pages < 2 ^ 32 → wide + wide_back < 2 ^ 64
+wide-sum i first blocks pages wide_is small back_is few reach = omega (arith, wide_is, small, back_is, few, add-mul first blocks pages, reach)
 
 pub look-requires-clause-exists : goal.look-requires-clause-exists
 look-requires-clause-exists g c =
@@ -142,3 +146,18 @@ returns-then-from-next-clause-some g c =
     let bytes : c.look.new.buf.bytes ≡ page_at f (kept_page r m i) = bytes_read f before after i 0 reads c.page_back-page.result (kept_page r m i) c.page_back-page.ensures.page told c.look.new.buf.bytes c.in_ok-state.ensures.bytes in
     not_own (page_at f) r m c.args.next i c.loop-i-test.true (c.loop-i.invariant.numbered told) (ap commits (sym state) ∙ sym c.is_committed.ensures ∙ c.if-is_committed.true)
     (λ own. c.if-from-next.true (own_told (c.get_u32-number.ensures ∙ ap number_of (c.bytes.ensures ∙ bytes)) c.from-then-is_committed.ensures c.from-then-is_committed-2.ensures own))
+
+pub look-requires-clause-room : goal.look-requires-clause-room
+look-requires-clause-room g c = look_room c.args.ring.now (g.F.Flash.state c.args.flash.now) (g.F.Flash.state c.loop-i.flash) c.loop-i.i _ c.requires.lies c.loop-i.invariant.reads c.loop-i.invariant.room
+
+pub look-requires-clause-size : goal.look-requires-clause-size
+look-requires-clause-size g c = mark_fits _ _ c.loop-i.invariant.room c.args.ring.now.served.size
+
+pub overflow_sub-back : goal.overflow_sub-back
+overflow_sub-back g c = c.loop-i.auto.i-end
+
+pub get_u32-number-requires : goal.get_u32-number-requires
+get_u32-number-requires g c = number_long c.bytes.result.now c.look.new.buf.bytes c.bytes.ensures (c.look.ensures.room ∙ c.loop-i.invariant.room) c.args.ring.now.served.size
+
+pub overflow_add-from : goal.overflow_add-from
+overflow_add-from g c = record { fits = wide-sum c.loop-i.i c.args.ring.now.first_block c.args.ring.now.blocks c.args.ring.now.per_block c.from-then-is_committed.ensures c.get_u32-number.type_inv c.from-then-is_committed-2.ensures c.requires.within.kept c.args.ring.now.reach }

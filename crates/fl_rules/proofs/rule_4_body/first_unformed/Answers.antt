@@ -2,11 +2,11 @@ use Rattle.std.proofs.Common.{refl, ◌∙◌, ◌≡◌, ℕ, ◌+◌, ◌-◌,
 use Rattle.std.proofs.lemmas.Result.{err_from_is_err_and}
 use Rattle.std.proofs.lemmas.Bool.{false≢true}
 use Rattle.fl_ring.proofs.Exists.{page_exists}
-use Rattle.fl_ring.proofs.ReadsInTurn.{fewer_reads}
+use Rattle.fl_ring.proofs.ReadsInTurn.{fewer_reads, mark_fits}
 use Rattle.fl_flash.specs.Flash.{page_at}
 use Rattle.fl_ring.specs.Place.{shape_of}
 use Rattle.fl_frame.proofs.ReadsInTurn.{no_reads, more_reads}
-use Rattle.fl_rules.proofs.OneMorePage.{one_read, read_fails, some_back, few_back, bytes_read, state_read, more_of, all_below}
+use Rattle.fl_rules.proofs.OneMorePage.{one_read, read_fails, some_back, few_back, bytes_read, state_read, more_of, all_below, look_room, page_long, page_brief}
 use Rattle.fl_rules.proofs.OneMoreBody.{all_formed, one_formed, not_due, formed, not_committed, unformed}
 use Rattle.fl_ring.specs.Looking.{state_at}
 use Rattle.fl_ring.specs.Newest.{commits}
@@ -138,3 +138,24 @@ returns-clause-reads g c = fewer_reads (g.F.Flash.state c.args.flash.now) (g.F.F
 pub returns-clause-none : goal.returns-clause-none
 returns-clause-none g c = λ told. subst (λ (k : ℕ). AllBelow (HasBody (g.B.Form.holds c.args.form.now) (page_at (g.F.Flash.state c.args.flash.now)) (shape_of c.args.ring.now) c.args.n) k)
     (all_below c.loop-i.auto.i-end c.loop-i-test.false) (c.loop-i.invariant.formed told)
+
+pub look-requires-clause-room : goal.look-requires-clause-room
+look-requires-clause-room g c = look_room c.args.ring.now (g.F.Flash.state c.args.flash.now) (g.F.Flash.state c.loop-i.flash) c.loop-i.i _ c.requires.lies c.loop-i.invariant.reads c.loop-i.invariant.room
+
+pub look-requires-clause-size : goal.look-requires-clause-size
+look-requires-clause-size g c = mark_fits _ _ c.loop-i.invariant.room c.args.ring.now.served.size
+
+pub is_of-requires-clause-least : goal.is_of-requires-clause-least
+is_of-requires-clause-least g c = page_long c.bytes.result.now c.look.new.buf.bytes c.bytes.ensures (c.look.ensures.room ∙ c.loop-i.invariant.room) c.args.ring.now.served.size
+
+pub is_of-requires-clause-most : goal.is_of-requires-clause-most
+is_of-requires-clause-most g c = page_brief c.bytes.result.now c.look.new.buf.bytes c.bytes.ensures (c.look.ensures.room ∙ c.loop-i.invariant.room) c.args.ring.now.small_pages
+
+pub returns-then-not-is_of-clause-none : goal.returns-then-not-is_of-clause-none
+returns-then-not-is_of-clause-none g c = λ told. tt
+
+pub returns-then-not-is_of-clause-fails : goal.returns-then-not-is_of-clause-fails
+returns-then-not-is_of-clause-fails g c = tt
+
+pub overflow_sub-back : goal.overflow_sub-back
+overflow_sub-back g c = c.loop-i.auto.i-end

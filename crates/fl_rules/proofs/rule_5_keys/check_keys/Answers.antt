@@ -1,12 +1,16 @@
-use Rattle.std.proofs.Common.{ℕ, IsTrue, ◌∙◌, ap}
+use Rattle.std.proofs.Common.{rules, ℕ, IsTrue, ◌∙◌, ap, refl, subst}
 use Rattle.std.proofs.lemmas.Result.{err_from_is_err_and}
+use borrow.Author.Count.{below_none}
 use Rattle.fl_flash.specs.Flash.{page_at}
 use Rattle.fl_ring.specs.Place.{shape_of}
 use Rattle.fl_ring.proofs.Exists.{page_exists}
-use Rattle.fl_frame.proofs.ReadsInTurn.{more_reads, same_page, told_still}
+use Rattle.fl_frame.proofs.ReadsInTurn.{more_reads, same_page, told_still, no_reads}
 use Rattle.fl_schema.specs.Schema.{layout_of}
 use Rattle.fl_rules.proofs.LastKeys.{last_for, rise_more, falls_for}
-use Rattle.fl_rules.proofs.OneMorePage.{one_read, read_fails, some_back, few_back}
+use Rattle.fl_rules.proofs.OneMorePage.{one_read, read_fails, some_back, few_back, look_room, header_long, all_below}
+use Rattle.fl_ring.proofs.ReadsInTurn.{mark_fits, fewer_reads}
+use Rattle.fl_rules.specs.Claims.{AllBelow}
+use Rattle.fl_rules.specs.Rising.{Rises}
 use Rattle.fl_rules.proofs.rule_5_keys.check_keys.Goals as goal
 
 pub look-requires-clause-exists : goal.look-requires-clause-exists
@@ -94,3 +98,26 @@ returns-clause-broken g c = tt
 
 pub returns-clause-fails : goal.returns-clause-fails
 returns-clause-fails g c = tt
+
+pub look-requires-clause-room : goal.look-requires-clause-room
+look-requires-clause-room g c = look_room c.args.ring.now (g.F.Flash.state c.args.flash.now) (g.F.Flash.state c.loop-i.flash) c.loop-i.i _ c.requires.lies c.loop-i.invariant.reads c.loop-i.invariant.room
+
+pub look-requires-clause-size : goal.look-requires-clause-size
+look-requires-clause-size g c = mark_fits _ _ c.loop-i.invariant.room c.args.ring.now.served.size
+
+pub loop-i-init : goal.loop-i-init
+loop-i-init g c = record { reads = no_reads (g.F.Flash.state c.args.flash.now); room = c.requires.room; last = λ told. refl; rise = λ told. below_none _ }
+
+pub last_after-requires : goal.last_after-requires
+last_after-requires g c = (search rules, header_long c.bytes.result.now c.look.new.buf.bytes c.bytes.ensures (c.look.ensures.room ∙ c.loop-i.invariant.room) c.args.ring.now.served.size)
+
+pub returns-clause-reads : goal.returns-clause-reads
+returns-clause-reads g c = fewer_reads (g.F.Flash.state c.args.flash.now) (g.F.Flash.state c.loop-i.flash) c.loop-i.i c.args.m.kept c.loop-i.invariant.reads c.loop-i.auto.i-end
+
+pub returns-clause-keys : goal.returns-clause-keys
+returns-clause-keys g c =
+    λ told. subst (λ (k : ℕ). AllBelow (Rises (layout_of c.args.schema.now) (page_at (g.F.Flash.state c.args.flash.now)) (shape_of c.args.ring.now) c.args.m) k)
+    (all_below c.loop-i.auto.i-end c.loop-i-test.false) (c.loop-i.invariant.rise told)
+
+pub overflow_sub-m : goal.overflow_sub-m
+overflow_sub-m g c = c.loop-i.auto.i-end

@@ -1,14 +1,14 @@
-use Rattle.std.proofs.Common.{◌≡◌, ℕ, List, sym, ◌∙◌, ap}
+use Rattle.std.proofs.Common.{◌≡◌, ℕ, List, sym, ◌∙◌, ap, refl}
 use Rattle.std.proofs.lemmas.Result.{err_from_is_err_and}
 use Rattle.fl_flash.specs.Flash.{page_at}
 use Rattle.fl_ring.specs.Place.{shape_of}
 use Rattle.fl_ring.proofs.Exists.{page_exists}
-use Rattle.fl_ring.proofs.ReadsInTurn.{fewer_reads}
-use Rattle.fl_frame.proofs.ReadsInTurn.{more_reads, same_page, told_still}
+use Rattle.fl_ring.proofs.ReadsInTurn.{fewer_reads, mark_fits}
+use Rattle.fl_frame.proofs.ReadsInTurn.{more_reads, same_page, told_still, no_reads}
 use Rattle.fl_rules.specs.Marks.{kept_page}
-use Rattle.fl_rules.specs.Tally.{listed_after}
+use Rattle.fl_rules.specs.Tally.{listed_after, listed_to}
 use Rattle.fl_rules.proofs.Tallies.{listed_next}
-use Rattle.fl_rules.proofs.OneMorePage.{one_read, read_fails, some_back, few_back}
+use Rattle.fl_rules.proofs.OneMorePage.{one_read, read_fails, some_back, few_back, look_room, page_long, all_below}
 use Rattle.fl_rules.proofs.tally.find_end.Goals as goal
 
 pub look-requires-clause-exists : goal.look-requires-clause-exists
@@ -64,3 +64,24 @@ returns-clause-reads g c = fewer_reads (g.F.Flash.state c.args.flash.now) (g.F.F
 
 pub returns-clause-room : goal.returns-clause-room
 returns-clause-room g c = c.loop-i.invariant.room
+
+pub look-requires-clause-room : goal.look-requires-clause-room
+look-requires-clause-room g c = look_room c.args.ring.now (g.F.Flash.state c.args.flash.now) (g.F.Flash.state c.loop-i.flash) c.loop-i.i _ c.requires.lies c.loop-i.invariant.reads c.loop-i.invariant.room
+
+pub look-requires-clause-size : goal.look-requires-clause-size
+look-requires-clause-size g c = mark_fits _ _ c.loop-i.invariant.room c.args.ring.now.served.size
+
+pub loop-i-init : goal.loop-i-init
+loop-i-init g c = record { reads = no_reads (g.F.Flash.state c.args.flash.now); room = c.requires.room; end = λ told. refl }
+
+pub end_after-end-requires : goal.end_after-end-requires
+end_after-end-requires g c = page_long c.bytes.result.now c.look.new.buf.bytes c.bytes.ensures (c.look.ensures.room ∙ c.loop-i.invariant.room) c.args.ring.now.served.size
+
+pub returns-clause-end : goal.returns-clause-end
+returns-clause-end g c = λ told. c.loop-i.invariant.end told ∙ ap (listed_to c.args.per_page (page_at (g.F.Flash.state c.args.flash.now)) (shape_of c.args.ring.now) c.args.m) (all_below c.loop-i.auto.i-end c.loop-i-test.false)
+
+pub returns-clause-fails : goal.returns-clause-fails
+returns-clause-fails g c = tt
+
+pub overflow_sub-m : goal.overflow_sub-m
+overflow_sub-m g c = c.loop-i.auto.i-end
