@@ -1,5 +1,6 @@
 pub mod Slopes
 pub mod Lists
+pub mod Ends
 pub mod Scans
 pub mod Retained
 pub mod Segments
