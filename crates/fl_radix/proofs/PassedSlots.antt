@@ -1,7 +1,8 @@
 -- The starts of slots that the last knot passes.
-use Rattle.std.proofs.Common.{ℕ, ◌≡◌, ◌<◌, ◌≤◌, ◌+◌, ◌-◌, ◌/◌, ◌^◌, List, length, drop, get_or, slice_set, arith, refl, sym, subst, ap, ◌∙◌, inl, inr, ⊎_elim, length-set}
+use Rattle.std.proofs.Common.{ℕ, ◌≡◌, ◌<◌, ◌≤◌, ◌+◌, ◌-◌, ◌/◌, ◌^◌, List, length, drop, get_or, slice_set, arith, refl, sym, subst, ap, ◌∙◌, inl, inr, ⊎_elim, le_antisymm, lt_of_lt_of_le, length-set}
 use Rattle.std.proofs.lemmas.Bool.{cases_lt, cases_eq}
 use Rattle.std.specs.List.{refill}
+use Rattle.std.specs.Prelude.{slice_index}
 use Rattle.std.proofs.lemmas.List.{get_or-set_same, get_or-set_other, take_at}
 use Rattle.std.proofs.Math.Pow.{shr_mono}
 use Rattle.fl_spline.specs.Points.{Rises, LastMoved}
@@ -161,3 +162,14 @@ table-moved {SLOTS} old new slot r r' up some moved table at fits passed first s
         (but-last s (get_or r.starts.items s 0) (few s stays lt) inside is.before (λ j ge within. is.after j ge (omega (arith, within, moved.count)))))
         (cases_lt passed.stood s))
         (cases_lt slot s)
+
+-- the table after the start of each slot was found
+pub table-filled : {SLOTS : ℕ} (knots : List (ℕ × ℕ)) (r : Radix SLOTS) (filled : ℕ) → length r.starts.items ≡ filled → filled ≤ SLOTS → SLOTS ≤ filled
+    → r.first ≡ first_key knots → IsLeastShift SLOTS (last_key knots - first_key knots) r.shift
+    → ((slot : ℕ) → slot < filled → IsStart knots r.shift slot (slice_index r.starts.items slot)) → IsTableOf knots r
+table-filled knots r filled count most least first shift starts = record {
+  first = first;
+  shift = shift;
+  slots = count ∙ le_antisymm most least;
+  starts = λ slot lt. starts slot (lt_of_lt_of_le lt least);
+}

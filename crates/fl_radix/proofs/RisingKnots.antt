@@ -1,12 +1,12 @@
 -- Slots and bisections over knots that rise.
-use Rattle.std.proofs.Common.{ℕ, zero, suc, ◌≡◌, ◌<◌, ◌≤◌, ◌+◌, ◌-◌, ◌/◌, ◌^◌, List, [], ◌∷◌, ◌++◌, length, get_or, drop, Bool, true, false, leb, cond, arith, refl, ap, ◌∙◌, ⊎_elim, length-take, length-drop}
+use Rattle.std.proofs.Common.{ℕ, zero, suc, ◌≡◌, ◌<◌, ◌≤◌, ◌+◌, ◌-◌, ◌/◌, ◌^◌, List, [], ◌∷◌, ◌++◌, length, get_or, drop, Bool, true, false, leb, cond, zero-lt-suc, arith, refl, sym, ap, ◌∙◌, ⊎_elim, length-take, length-drop}
 use Rattle.std.specs.Prelude.{slice_range, ◌==◌}
 use Rattle.std.specs.List.{count_by}
 use borrow.Author.Tests.{eq-eqb}
 use Rattle.std.proofs.lemmas.List.Sums.{count_by-le-length}
 use Rattle.std.proofs.lemmas.List.Recursion.{is_count_by}
 use Rattle.std.proofs.lemmas.List.{get_or-take, get_or-drop}
-use Rattle.std.proofs.lemmas.Bool.{cases_lt, le-leb, lt-leb, ne_eqb}
+use Rattle.std.proofs.lemmas.Bool.{cases_lt, true≢false, eqb-true, le-leb, lt-leb, ne_eqb}
 use Rattle.std.proofs.lemmas.Nat.{shr_below}
 use Rattle.std.proofs.Math.ListN.{get_or-append}
 use Rattle.std.proofs.Math.Seq.{get_or-append_seam}
@@ -18,6 +18,20 @@ use Rattle.fl_spline.proofs.Lists.{rises-take, rises-drop}
 use Rattle.fl_spline.proofs.Segments.{keys-rise}
 use Rattle.fl_base.proofs.BitsGrow.{bits-le}
 use Rattle.fl_radix.specs.Slots.{slot_of, first_key, last_key, knots_in_slot, IsStart, IsSlot, AreUpTo, AreBeyond}
+
+-- what a test for none says
+pub some-are : (n : ℕ) (none : Bool) → none ≡ (n == 0) → none ≡ false → 0 < n
+some-are zero none is not_none = absurd (true≢false (sym is ∙ not_none))
+some-are (suc n) none is not_none = zero-lt-suc n
+
+pub none-are : {P : Type 0} (n : ℕ) (none : Bool) → none ≡ (n == 0) → none ≡ true → 0 < n → P
+none-are n none is are some = let zero_is : n ≡ 0 = eqb-true n 0 (sym is ∙ are) in absurd (omega (arith, zero_is, some))
+
+pub from-none : (n : ℕ) → 0 ≤ n
+from-none n = omega arith
+
+pub none-below : {P : Type 0} (j : ℕ) → j < 0 → P
+none-below j less = absurd (omega (arith, less))
 
 -- 63 bits are enough to leave out
 pub few_bits : (width slots shift : ℕ) → width < 2 ^ 64 → 2 ≤ slots → slots ≤ width / 2 ^ shift → shift < 64 → shift + 1 < 64
@@ -42,6 +56,9 @@ up-to-more ks key m up within le j lt = let keys = keys-rise ks up j m (0, 0) (o
 
 pub beyond-from : (ks : List (ℕ × ℕ)) (key m : ℕ) → Rises ks → key < (point_at ks m).0 → AreBeyond ks key m
 beyond-from ks key m up lt j from within = let keys = keys-rise ks up m j (0, 0) from within in omega (arith, keys, lt)
+
+pub first-last : (ks : List (ℕ × ℕ)) → Rises ks → 0 < length ks → first_key ks ≤ last_key ks
+first-last ks up some = keys-rise ks up 0 (length ks - 1) (0, 0) (omega arith) (omega arith)
 
 -- two slots that follow one another have the knots of the first between their starts
 pub slot-between : (ks : List (ℕ × ℕ)) (shift slot from to : ℕ) → IsStart ks shift slot from → IsStart ks shift (slot + 1) to → IsSlot ks shift slot from to

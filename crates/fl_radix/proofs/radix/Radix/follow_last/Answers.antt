@@ -2,6 +2,7 @@ use Rattle.std.proofs.Common.{arith, refl, ◌<◌, length}
 use Rattle.fl_spline.specs.Points.{Rises, LastMoved}
 use Rattle.fl_radix.specs.Radix.{IsTableOf}
 use Rattle.fl_radix.specs.Slots.{slot_of, last_key}
+use Rattle.fl_radix.proofs.RisingKnots.{some-are, none-are, first-last}
 use Rattle.fl_radix.proofs.PassedSlots.{table-moved, passed-refilled}
 use Rattle.fl_radix.proofs.radix.Radix.follow_last.Goals as goal
 
@@ -18,3 +19,24 @@ returns g c = λ knots follows moved some.
     rw (← same)
     (table-moved knots ks (slot_of ks r.shift (last_key ks)) r _ up here on table refl fits
     (passed-refilled _ _ r.starts.items c.as_mut_slice.result.now c.pass_last.new.starts c.as_mut_slice.ensures.value c.pass_last.ensures) refl refl)
+
+pub returns-then-is_empty : goal.returns-then-is_empty
+returns-then-is_empty g c = λ knots follows moved some. none-are _ _ c.is_empty.ensures c.if-is_empty.true (rw c.as_slice-knots.ensures.knots some)
+
+pub overflow_sub-last : goal.overflow_sub-last
+overflow_sub-last g c = some-are _ _ c.is_empty.ensures c.if-is_empty.false
+
+pub bounds-knots-0 : goal.bounds-knots-0
+bounds-knots-0 g c = some-are _ _ c.is_empty.ensures c.if-is_empty.false
+
+pub overflow_sub-slot : goal.overflow_sub-slot
+overflow_sub-slot g c = first-last _ (rw c.as_slice-knots.ensures.knots c.as_slice-knots.ensures.rises) (some-are _ _ c.is_empty.ensures c.if-is_empty.false)
+
+pub overflow_shr-slot : goal.overflow_shr-slot
+overflow_shr-slot g c = c.args.self.now.small
+
+pub returns-then-slot-len : goal.returns-then-slot-len
+returns-then-slot-len g c = λ knots follows moved. c.follow.ensures
+
+pub invariant_of-self : goal.invariant_of-self
+invariant_of-self g c = record { two = c.args.self.now.two; small = c.args.self.now.small }
