@@ -1,7 +1,7 @@
 -- A cursor in a page: it takes a row, or goes on behind the page.
 use Rattle.std.proofs.Common.{◌≡◌, ℕ, suc, ◌+◌, ◌-◌, ◌^◌, ◌<◌, ◌≤◌, ◌/◌, true, false, ◌&&◌, cond, ◌==◌, nat_lt, nat_le, Option, Some, None, unwrap_or, List, [], ◌∷◌, ◌++◌, length, drop, refl, sym, ◌∙◌, ap, subst, arith}
 use Rattle.std.specs.List.{slice_get}
-use Rattle.std.proofs.lemmas.Bool.{lt-ltb, le-leb, eq-eqb}
+use Rattle.std.proofs.lemmas.Bool.{lt-ltb, le-leb, leb-true, eq-eqb, eqb-true}
 use Rattle.std.proofs.lemmas.List.{drop-drop}
 use Rattle.std.proofs.lemmas.Option.{same_Some}
 use Rattle.fl_model.specs.Record.{RowLayout, layout_len}
@@ -15,6 +15,7 @@ use Rattle.fl_table.specs.Look.{layout_in, oldest_in, buffered_rows}
 use Rattle.fl_table.specs.Memory.{next_in}
 use Rattle.fl_parts.specs.Skipping.{AreScanning, due_of}
 use Rattle.fl_cursor.specs.Asked.{is_left, is_last}
+use Rattle.fl_cursor.specs.Ascending.{both}
 use Rattle.fl_cursor.specs.Cursor.{table_of, asked_of, buffer_of, index_page, is_here_at, rows_behind, Passes, IsPlaced, IsTold, IsLooking}
 use Rattle.fl_cursor.specs.Going.{Goes, took}
 use Rattle.fl_cursor.specs.Listed.{rows_from, rows_over, rows_of}
@@ -37,6 +38,13 @@ good-seen layout number page good =
     ap (λ b. (b && nat_le 1 (page_count page)) && nat_le (page_count page) ((length page - 24) / layout_len layout)) number_is
     ∙ (ap (λ b. b && nat_le (page_count page) ((length page - 24) / layout_len layout)) (le-leb 1 (page_count page) good.some)
     ∙ le-leb (page_count page) ((length page - 24) / layout_len layout) good.room)
+
+-- .. and one that is seen as one is good
+pub seen-good : (layout : RowLayout) (number : ℕ) (page : List ℕ) → has_form layout number page ≡ true → IsGoodPage layout number page
+seen-good layout number page form =
+    let fits = both ((page_number page == number) && nat_le 1 (page_count page)) (nat_le (page_count page) ((length page - 24) / layout_len layout)) form in
+    let some = both (page_number page == number) (nat_le 1 (page_count page)) fits.0 in
+    record { number_is = eqb-true (page_number page) number some.0; some = leb-true 1 (page_count page) some.1; room = leb-true (page_count page) ((length page - 24) / layout_len layout) fits.1 }
 
 -- the same row
 pub same-row : (rows : List Row) (from j k : ℕ) (r row : Row) → k ≡ from + j → slice_get (drop from rows) j ≡ Some r → slice_get rows k ≡ Some row → r ≡ row

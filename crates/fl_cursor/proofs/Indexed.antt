@@ -10,6 +10,7 @@ use Rattle.fl_flash.specs.Flash.{FlashState, page_at}
 use Rattle.fl_flash.specs.Places.{page_of}
 use Rattle.fl_index.specs.Looking as looking
 use Rattle.fl_index.specs.declared.index.BitmapIndex.{BitmapIndex}
+use Rattle.fl_mark.specs.Mark.{state_of_page}
 use Rattle.fl_model.specs.Image.{rows_at}
 use Rattle.fl_model.specs.Query.{selected}
 use Rattle.fl_model.specs.Record.{Plan}
@@ -18,10 +19,12 @@ use Rattle.fl_model.specs.Row.{Row}
 use Rattle.fl_model.specs.Table as model
 use Rattle.fl_frame.specs.Contents.{Contents, contents_of, OnlyReads}
 use Rattle.fl_frame.proofs.ContentsInTurn.{OnlyReads-reads}
+use Rattle.fl_page.specs.Page.{IsGoodPage, bad_page}
 use Rattle.fl_page.specs.declared.fault.ReadFault.{ReadFault}
 use Rattle.fl_page.specs.declared.fault.ReadFault.TheVariants.{Flash, BadPage}
-use Rattle.fl_table.specs.Look.{oldest_in, rows_noted, place_of}
+use Rattle.fl_table.specs.Look.{oldest_in, rows_noted, place_of, layout_in}
 use Rattle.fl_table.specs.Memory.{next_in}
+use Rattle.fl_parts.specs.Kept.{IfRead, IsFound}
 use Rattle.fl_parts.specs.Skipping as skipping
 use Rattle.fl_parts.specs.Skipping.{AreFresh, AreScanning, HoldGood, IsBadIndex, LooksOn, wants_page, ShowsPage}
 use Rattle.fl_parts.specs.declared.ahead.Ahead.{Ahead}
@@ -29,7 +32,7 @@ use Rattle.fl_parts.specs.declared.ahead.Ahead.TheVariants.{Wanted, Missed, Beyo
 use Rattle.fl_table.specs.Standing.{Stands}
 use Rattle.fl_table.specs.declared.table.Table.{Table}
 use Rattle.fl_cursor.specs.Asked.{is_asked}
-use Rattle.fl_cursor.specs.Cursor.{table_of, asked_of, index_page, IsStanding, IsTold, IsLooking, AreFreshIn, AreBadIn, MayBeBad, IfBad}
+use Rattle.fl_cursor.specs.Cursor.{table_of, asked_of, index_page, IsStanding, IsTold, IsLooking, AreFreshIn, AreBadIn, MayBeBad, IfBad, IsBadPage}
 use Rattle.fl_cursor.specs.Listed.{bytes_at, rows_on}
 use Rattle.fl_cursor.specs.Reads.{is_beyond, is_missed}
 use Rattle.fl_cursor.specs.declared.cursor.Cursor.{Cursor}
@@ -154,3 +157,17 @@ told-bytes t number f new bytes tells counts read =
 
 pub page-bytes : {KNOTS SLOTS : ℕ} (t : Table KNOTS SLOTS) (number : ℕ) (f new : FlashState) (bytes : List ℕ) → IsStanding t (contents_of f) → OnlyReads f new → (IsTrue new.media.tells → bytes ≡ page_at new (place_of t number)) → bytes ≡ bytes_at t (contents_of f) number
 page-bytes t number f new bytes standing counts read = told-bytes t number f new bytes (standing-tells t (contents_of f) standing) counts read
+
+-- a bad page that was read after the look
+pub bad-kept : {KNOTS SLOTS : ℕ} (t : Table KNOTS SLOTS) (f new : FlashState) (number : ℕ) (page : List ℕ) (fault : ReadFault) → oldest_in t ≤ number → number < next_in t → OnlyReads f new →
+    IsFound (layout_in t) number page (Err fault) → IfRead (Err fault) (IsTrue new.media.tells → page ≡ page_at new (place_of t number)) → IfBad (MayBeBad t (contents_of f)) fault
+bad-kept t f new number page (Flash e) from before counts found read = tt
+bad-kept t f new number page (BadPage bad) from before counts found read = λ tells.
+    let same = told-bytes t number f new page tells counts read in
+    inl (subst (λ b. IsBadPage t (contents_of f) b) (sym found.2) (record {
+      from = from;
+      before = before;
+      committed = ap state_of_page (sym same) ∙ found.0;
+      not_good = λ good. found.1 (subst (IsGoodPage (layout_in t) number) (sym same) good);
+      told = ap (bad_page number) same;
+    }))

@@ -12,6 +12,8 @@ pub mod StartPlaces
 pub mod NextPages
 pub mod Indexed
 pub mod SoundPages
+pub mod PlacesLeft
+pub mod Lying
 pub mod Whole
 pub mod StepsOfRows
 pub mod LowestPage

@@ -20,7 +20,7 @@ use Rattle.fl_cursor.specs.Asked.{is_asked}
 use Rattle.fl_cursor.specs.Cursor.{table_of, asked_of, buffer_of, index_page, rows_behind, Passes, IsPlaced, IsTold, IsLooking, AreFreshIn}
 use Rattle.fl_cursor.specs.Going.{Goes, Fails}
 use Rattle.fl_cursor.specs.Listed.{bytes_at, rows_on, rows_over, rows_from, rows_of}
-use Rattle.fl_cursor.specs.Reads.{has_last, is_beyond, is_missed, is_skipped, looks_to_last, pages_to_last, pages_asked, pages_looked_up, most_from, least_from}
+use Rattle.fl_cursor.specs.Reads.{has_last, is_beyond, is_missed, looks_to_last, pages_to_last, pages_asked, pages_looked_up, most_from, least_from}
 use Rattle.fl_cursor.specs.declared.cursor.Cursor.{Cursor}
 use Rattle.fl_cursor.specs.declared.place.Place.{Place}
 use Rattle.fl_cursor.specs.declared.place.Place.TheVariants.{Pages, InPage, Ended}

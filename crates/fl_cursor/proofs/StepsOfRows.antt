@@ -1,8 +1,11 @@
 -- A step as the step of rows.
-use Rattle.std.proofs.Common.{◌≡◌, ℕ, ◌+◌, ◌-◌, ◌^◌, ◌<◌, ◌≤◌, true, false, Bool, [], filter, Result, Ok, Err, OnOk, OnErr, IfOk, IfErr, refl, ◌∙◌, ap, arith, inl, inr, Option, Some, None, subst}
-use Rattle.std.specs.Bool.{OnFalse}
+use Rattle.std.proofs.Common.{◌≡◌, ℕ, zero, suc, ◌+◌, ◌-◌, ◌^◌, ◌<◌, ◌≤◌, nat_le, true, false, Bool, ◌&&◌, if◌then◌else◌, [], filter, Result, Ok, Err, OnOk, OnErr, IfOk, IfErr, refl, ◌∙◌, ap, arith, inl, inr, Option, Some, None, subst}
+use Rattle.std.specs.Bool.{OnTrue, OnFalse}
 use Rattle.std.specs.Borrow.{Bor}
-use Rattle.std.proofs.lemmas.Bool.{false≢true}
+use Rattle.std.specs.List.{slice_get}
+use Rattle.std.proofs.lemmas.Bool.{false≢true, le-leb, leb-true, lt-ltb, ltb-true}
+use Rattle.fl_model.specs.Query.{Cursor as Asked, in_range, in_span, is_above, is_up_to}
+use Rattle.fl_model.specs.Row.{Row}
 use Rattle.fl_frame.specs.Contents.{Contents}
 use Rattle.fl_page.specs.Steps.{Steps, left_after}
 use Rattle.fl_page.specs.declared.fault.BadPage.{BadPage as BadPageOf}
@@ -17,9 +20,10 @@ use Rattle.fl_mark.specs.Mark.{state_of_page}
 use Rattle.fl_parts.specs.Bitmaps.{LieOn}
 use Rattle.fl_table.specs.declared.table.Table.{Table}
 use Rattle.fl_table.proofs.IndexStands.{index-stands}
-use Rattle.fl_cursor.specs.Asked.{asked_by, is_left}
-use Rattle.fl_cursor.specs.Cursor.{table_of, asked_of, buffer_of, index_page, present_of, left_of, is_end, has_ended, rows_behind, IsStanding, IsTold, AreBadIn, IfBad, MayBeBad}
-use Rattle.fl_cursor.specs.Going.{Goes, Fails}
+use Rattle.fl_cursor.specs.Asked.{asked_by, is_left, row_matches, above_range, above_of}
+use Rattle.fl_cursor.specs.Ascending.{both, left-above}
+use Rattle.fl_cursor.specs.Cursor.{table_of, asked_of, buffer_of, index_page, present_of, left_of, is_end, has_ended, rows_behind, IsReady, IsStanding, IsTold, AreBadIn, IfBad, MayBeBad}
+use Rattle.fl_cursor.specs.Going.{Keeps, Goes, Fails}
 use Rattle.fl_cursor.specs.Listed.{rows_of}
 use Rattle.fl_cursor.specs.Reads.{most_of, least_of, least_from}
 use Rattle.fl_cursor.specs.declared.bookmark.Bookmark.{Bookmark}
@@ -52,10 +56,52 @@ none-bad t contents h bad (Some index) is e =
     let good = kept-good index h.flash (h.first + h.plan.data_blocks) h.plan h.table (index-stands t h.flash h.first h.plan h.table h.stands index is) lies h.reaches bad.wanted e.from e.before (ap state_of_page same ∙ e.committed) in
     e.not_good (subst (IsGoodPage (per_page index) bad.wanted) same good)
 
+-- a row that is left is in the range, and the next one lies above it
+from-low : (asked : Asked) (row : Row) → is_left asked row ≡ true → nat_le asked.range.low row.key ≡ true
+from-low asked row left =
+    let parts = both (row_matches asked.range asked.span row && is_above asked.after row.key) (is_up_to asked.top row.key) left in
+    let matching = both (row_matches asked.range asked.span row) (is_above asked.after row.key) parts.0 in
+    let asks = both (in_range asked.range row.key) (in_span asked.span (slice_get row.values 0)) matching.0 in
+    (both (nat_le asked.range.low row.key) (nat_le row.key asked.range.high) asks.0).0
+
+above-taken : (low key : ℕ) → nat_le low key ≡ true → above_range low (Some key) ≡ Some key
+above-taken zero key from = refl
+above-taken (suc low) key from = ap (λ b. if b then Some key else Some low) (le-leb low key (omega (arith, leb-true (suc low) key from)))
+
+above-more : (above : Option ℕ) (key next : ℕ) → is_above above key ≡ true → is_above (Some key) next ≡ true → is_above above next ≡ true
+above-more None key next first second = refl
+above-more (Some low) key next first second = lt-ltb low next (omega (arith, ltb-true low key first, ltb-true key next second))
+
 module _ {KNOTS SLOTS : ℕ} (old new : Cursor KNOTS SLOTS) (contents : Contents) (reads reads_now : ℕ) where
   pub told-after : (result : Result Bool ReadFault) → IfOk result (λ more. Goes more contents reads old reads_now new) → OnErr result (Fails contents reads old reads_now new) → IsTold old contents → IsTold new contents
   told-after (Ok more) goes fails told = goes.told told
   told-after (Err fault) goes fails told = fails.told told
+
+  pub kept-after : (result : Result Bool ReadFault) → IfOk result (λ more. Goes more contents reads old reads_now new) → OnErr result (Fails contents reads old reads_now new) → Keeps old new
+  kept-after (Ok more) goes fails = goes.keeps
+  kept-after (Err fault) goes fails = fails.keeps
+
+  pub ready-after : (result : Result Bool ReadFault) → IfOk result (λ more. Goes more contents reads old reads_now new) → OnErr result (Fails contents reads old reads_now new) → (held : Contents) → IsReady old held → IsReady new held
+  ready-after (Ok more) goes fails = goes.ready
+  ready-after (Err fault) goes fails = fails.ready
+
+  above-row : Goes true contents reads old reads_now new → above_of (asked_of new) ≡ Some (present_of new).key
+  above-row goes = ap (λ (m : Bookmark). above_of (asked_by m)) goes.notes.0 ∙ above-taken old.mark.range.low (present_of new).key (from-low (asked_of old) (present_of new) goes.notes.1)
+
+  -- the row that it took has the key above which the next one lies
+  pub key-after : (result : Result Bool ReadFault) → IfOk result (λ more. Goes more contents reads old reads_now new) →
+      IfOk result (λ more. OnTrue more ((above_of (asked_of new) ≡ Some (present_of new).key) × (is_above (above_of (asked_of old)) (present_of new).key ≡ true) × ((present_of new).key < 2 ^ 64)))
+  key-after (Ok true) goes = (above-row goes, left-above (asked_of old) (present_of new) goes.notes.1, goes.notes.3)
+  key-after (Ok false) goes = tt
+  key-after (Err fault) goes = tt
+
+  -- no lower one comes again
+  pub falls-never : (result : Result Bool ReadFault) → IfOk result (λ more. Goes more contents reads old reads_now new) → OnErr result (Fails contents reads old reads_now new) →
+      (key : ℕ) → is_above (above_of (asked_of new)) key ≡ true → is_above (above_of (asked_of old)) key ≡ true
+  falls-never (Ok true) goes fails key above =
+      above-more (above_of (asked_of old)) (present_of new).key key (left-above (asked_of old) (present_of new) goes.notes.1) (subst (λ (o : Option ℕ). is_above o key ≡ true) (above-row goes) above)
+  falls-never (Ok false) goes fails key above = subst (λ (m : Bookmark). is_above (above_of (asked_by m)) key ≡ true) goes.notes above
+  falls-never (Err fault) goes fails key above = subst (λ (m : Bookmark). is_above (above_of (asked_by m)) key ≡ true) fails.notes above
 
   same-left : Fails contents reads old reads_now new → left_of new contents ≡ left_of old contents
   same-left fails =

@@ -85,6 +85,20 @@ goes-nowhere a contents reads = record {
   least = λ told lt. omega arith;
 }
 
+-- a cursor that stays as it is
+pub goes-still : {KNOTS SLOTS : ℕ} (a : Cursor KNOTS SLOTS) (contents : Contents) (reads : ℕ) → Goes false contents reads a reads a
+goes-still a contents reads = record {
+  keeps = record { table = refl; rows_name = refl; rows_room = refl; index_name = refl; index_room = refl };
+  notes = refl;
+  ready = λ held h. h;
+  told = λ told. told;
+  gives = λ told. refl;
+  most = λ told. omega arith;
+  fewer = λ told. omega arith;
+  later = λ lt. omega arith;
+  least = λ told lt. omega arith;
+}
+
 -- there is a row just where one was taken
 pub here-after : {KNOTS SLOTS : ℕ} (taken : Bool) (a c : Cursor KNOTS SLOTS) → Notes taken a c → OnFalse taken (here_of c ≡ here_of a) → here_of a ≡ Nowhere → is_here c ≡ taken
 here-after true a c notes same none = notes.2

@@ -1,12 +1,13 @@
 -- What a part of a step makes of a cursor.
 use Rattle.std.specs.Prelude.{◌≡◌, ℕ, ◌+◌, ◌-◌, ◌^◌, ◌<◌, ◌≤◌, Bool, true, false, Some, List, ◌∷◌, length, if◌then◌else◌}
+use Rattle.std.specs.Bool.{OnFalse}
 use Rattle.fl_model.specs.Row.{Row}
 use Rattle.fl_frame.specs.Contents.{Contents}
 use Rattle.fl_table.specs.Look.{oldest_in}
 use Rattle.fl_table.specs.Memory.{next_in}
 use Rattle.fl_table.specs.declared.table.Table.{Table}
 use Rattle.fl_cursor.specs.Asked.{is_left, is_last}
-use Rattle.fl_cursor.specs.Cursor.{mark_of, asked_of, is_here, present_of, left_of, IsReady, IsTold}
+use Rattle.fl_cursor.specs.Cursor.{table_of, mark_of, asked_of, place_of, here_of, is_here, has_ended, present_of, left_of, IsReady, IsTold}
 use Rattle.fl_cursor.specs.Reads.{most_of, least_of}
 use Rattle.fl_cursor.specs.declared.place.Here.{Here}
 use Rattle.fl_cursor.specs.declared.place.Place.{Place}
@@ -71,6 +72,15 @@ is_at_pages (InPage number row) = true
 is_at_pages (Pages next) = true
 is_at_pages (Pending row) = false
 is_at_pages Ended = false
+
+-- Where a step in the page in hand leads: behind a page that is left, or to the end; at a place outside pages it leads nowhere.
+pub record StepsInPage {KNOTS SLOTS : ℕ} (taken : Bool) (old new : Cursor KNOTS SLOTS) : Type 0 where
+  pub here : OnFalse taken (here_of new ≡ here_of old)
+  pub begun : is_start (place_of new) ≡ false
+  pub outside : OnFalse taken (is_in_page (place_of new) ≡ false)
+  pub fewer : pages_left (table_of old) (place_of new) ≤ pages_left (table_of old) (place_of old)
+  pub stays_ended : has_ended old ≡ true → (taken ≡ false) × (has_ended new ≡ true)
+  pub behind : is_at_pages (place_of old) ≡ false → (taken ≡ false) × (is_at_pages (place_of new) ≡ false)
 
 -- It went on, and took a row or didn't; the count of reads rose from one number to another.
 pub record Goes {KNOTS SLOTS : ℕ} (taken : Bool) (contents : Contents) (reads : ℕ) (old : Cursor KNOTS SLOTS) (reads_now : ℕ) (new : Cursor KNOTS SLOTS) : Type 0 where

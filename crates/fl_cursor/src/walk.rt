@@ -19,7 +19,7 @@ impl<const KNOTS: usize, const SLOTS: usize> Cursor<'_, '_, '_, KNOTS, SLOTS> {
     ghost use Rattle.fl_cursor.specs.Cursor.{table_of, mark_of, asked_of, buffer_of, place_of, here_of, is_here, has_ended, IsReady, IsTold, IsPlaced, IfBad, MayBeBad};
     ghost use Rattle.fl_cursor.specs.Ends.{EndsPages};
     ghost use Rattle.fl_cursor.specs.Sound.{IsSoundAhead, pages_end};
-    ghost use Rattle.fl_cursor.specs.Going.{Goes, Fails, took, pages_left, is_start, is_in_page, is_at_pages};
+    ghost use Rattle.fl_cursor.specs.Going.{Goes, Fails, StepsInPage, took, pages_left, is_start, is_at_pages};
     ghost use Rattle.fl_cursor.specs.declared.place.Place.{Place};
 
     /// Takes the row with this key, which is here. The next one is looked for from the place on.
@@ -44,12 +44,7 @@ impl<const KNOTS: usize, const SLOTS: usize> Cursor<'_, '_, '_, KNOTS, SLOTS> {
         requires few { next_in (table_of self.old) < 2 ^ 32 }
         ensures goes { (contents : Contents) (reads : ℕ) → Goes result contents reads self.old reads self.new }
         ensures sound { (contents : Contents) → IsSoundAhead self.new contents → IsSoundAhead self.old contents }
-        ensures here { OnFalse result (here_of self.new ≡ here_of self.old) }
-        ensures begun { is_start (place_of self.new) ≡ false }
-        ensures outside { OnFalse result (is_in_page (place_of self.new) ≡ false) }
-        ensures fewer { pages_left (table_of self.old) (place_of self.new) ≤ pages_left (table_of self.old) (place_of self.old) }
-        ensures stays_ended { has_ended self.old ≡ true → (result ≡ false) × (has_ended self.new ≡ true) }
-        ensures behind { is_at_pages (place_of self.old) ≡ false → (result ≡ false) × (is_at_pages (place_of self.new) ≡ false) }
+        ensures place { StepsInPage result self.old self.new }
     {
         let Place::InPage { number, row } = self.place else {
             return false;

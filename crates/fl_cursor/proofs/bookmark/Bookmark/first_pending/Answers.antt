@@ -1,8 +1,9 @@
-use Rattle.std.proofs.Common.{◌≡◌, true, false, sym, ◌∙◌, rules}
+use Rattle.std.proofs.Common.{◌≡◌, true, false, sym, ◌∙◌, rules, refl}
 use Rattle.fl_table.specs.Look.{buffered_rows}
 use Rattle.fl_schema.specs.Schema.{row_of}
 use Rattle.fl_cursor.specs.Asked.{asked_by, is_left, is_last}
 use Rattle.fl_cursor.proofs.SearchedRows.{first-taken, first-last, first-next}
+use Rattle.fl_parts.proofs.Sizes.{table-fits}
 use Rattle.fl_cursor.proofs.bookmark.Bookmark.first_pending.Goals as goal
 
 pub returns-then-wants : goal.returns-then-wants
@@ -21,3 +22,9 @@ loop-i-preserved g c =
     let left : is_left (asked_by c.args.self.now) (row_of c.pending_row-row.result) ≡ false = search rules in
     let last : is_last c.args.self.now.top (row_of c.pending_row-row.result).key ≡ false = search rules in
     c.loop-i.invariant ∙ first-next (asked_by c.args.self.now) (buffered_rows c.args.table.now) c.loop-i.i (row_of c.pending_row-row.result) c.pending_row-row.ensures.row left last
+
+pub pending_rows-i-end-requires : goal.pending_rows-i-end-requires
+pending_rows-i-end-requires g c = table-fits g.row.KNOTS g.row.SLOTS c.args.table.now.few_knots c.args.table.now.few_slots
+
+pub loop-i-init : goal.loop-i-init
+loop-i-init g c = refl

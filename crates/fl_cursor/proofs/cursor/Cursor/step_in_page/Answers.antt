@@ -19,6 +19,9 @@ use Rattle.fl_cursor.proofs.InPage.{page-taken, page-behind, page-nowhere}
 use Rattle.fl_cursor.proofs.Walks.{found-within}
 use Rattle.fl_cursor.specs.Sound.{IsSoundAhead}
 use Rattle.fl_cursor.proofs.SoundPages.{sound-behind, sound-nowhere, sound-taken}
+use Rattle.fl_cursor.proofs.PlacesLeft.{step-none, step-taken, step-behind, step-nowhere}
+use Rattle.fl_cursor.proofs.Whole.{goes-still}
+use Rattle.fl_parts.proofs.Sizes.{table-fits}
 use Rattle.fl_cursor.proofs.cursor.Cursor.step_in_page.Goals as goal
 
 pub first_in_page-requires-clause-within : goal.first_in_page-requires-clause-within
@@ -100,3 +103,28 @@ returns-in-Nowhere-clause-sound g c = λ contents s.
     let sought : Nowhere ≡ first_left (asked_by c.args.self.now.mark) (drop c.in-InPage.row (rows_in (layout_in t) page)) c.in-InPage.row =
     sym c.in-Nowhere.is ∙ (c.first_in_page.ensures ∙ ap (λ (rows : List Row). first_left (asked_by c.args.self.now.mark) (drop c.in-InPage.row rows) c.in-InPage.row) c.view-view.ensures.rows) in
     sound-nowhere c.args.self.now c.in-InPage.number c.in-InPage.row c.in-InPage.is contents sought
+
+pub returns-in_default-clause-goes : goal.returns-in_default-clause-goes
+returns-in_default-clause-goes g c = λ contents reads. goes-still c.args.self.now contents reads
+
+pub returns-in_default-clause-sound : goal.returns-in_default-clause-sound
+returns-in_default-clause-sound g c = λ contents s. s
+
+pub returns-in_default-clause-place : goal.returns-in_default-clause-place
+returns-in_default-clause-place g c = step-none c.args.self.now c.requires.begun (λ number row e. c.in_default.not-InPage number row e)
+
+pub returns-in-Row-clause-place : goal.returns-in-Row-clause-place
+returns-in-Row-clause-place g c = step-taken c.args.self.now c.in-InPage.number c.in-InPage.row c.in-InPage.is c.take.new.self c.key-key.result (c.in-Row.row + 1) (PageRow c.in-InPage.number c.in-Row.row) c.take.ensures
+
+pub returns-in-Behind-clause-place : goal.returns-in-Behind-clause-place
+returns-in-Behind-clause-place g c =
+    let placed = subst (IsPlaced c.args.self.now.table.now c.args.self.now.rows_buf.now.bytes) c.in-InPage.is c.requires.placed in
+    step-behind c.args.self.now c.in-InPage.number c.in-InPage.row c.in-InPage.is placed.1
+
+pub returns-in-Nowhere-clause-place : goal.returns-in-Nowhere-clause-place
+returns-in-Nowhere-clause-place g c = step-nowhere c.args.self.now c.in-InPage.number c.in-InPage.row c.in-InPage.is
+
+pub view-view-requires : goal.view-view-requires
+view-view-requires g c =
+    let placed = subst (IsPlaced c.args.self.now.table.now c.args.self.now.rows_buf.now.bytes) c.in-InPage.is c.requires.placed in
+    (table-fits g.row.KNOTS g.row.SLOTS c.args.self.now.table.now.few_knots c.args.self.now.table.now.few_slots, (placed.2, c.requires.short))

@@ -1,8 +1,8 @@
-use Rattle.std.proofs.Common.{rules, ◌≡◌, ◌+◌, ◌^◌, ◌<◌, true, drop, sym, ◌∙◌, ap, subst, arith}
+use Rattle.std.proofs.Common.{rules, ◌≡◌, ◌+◌, ◌^◌, ◌<◌, true, drop, sym, ◌∙◌, ap, subst, arith, refl, false}
 use Rattle.fl_table.specs.Look.{buffered_rows}
 use Rattle.fl_schema.specs.Schema.{row_of}
-use Rattle.fl_cursor.specs.Asked.{asked_by}
-use Rattle.fl_cursor.specs.Going.{Goes, took}
+use Rattle.fl_cursor.specs.Asked.{asked_by, is_last}
+use Rattle.fl_cursor.specs.Going.{Goes, took, is_at_pages}
 use Rattle.fl_cursor.specs.Sought.{first_left}
 use Rattle.fl_cursor.specs.declared.cursor.Cursor.{Cursor}
 use Rattle.fl_cursor.specs.declared.place.Here.TheVariants.{PendingRow}
@@ -12,6 +12,10 @@ use Rattle.fl_table.proofs.PendingKey.{length-buffered}
 use Rattle.fl_cursor.proofs.PendingRowSteps.{pending-taken, pending-ends, few-pending}
 use Rattle.fl_cursor.proofs.Walks.{found-within}
 use Rattle.fl_cursor.proofs.SoundPages.{sound-pending}
+use Rattle.std.proofs.lemmas.Bool.{true≢false}
+use Rattle.fl_cursor.specs.Cursor.{is_end}
+use Rattle.fl_cursor.proofs.Whole.{goes-still}
+use Rattle.fl_cursor.proofs.PlacesLeft.{pending-or-ended, taken-behind}
 use Rattle.fl_cursor.proofs.cursor.Cursor.step_pending.Goals as goal
 
 pub pending_row-requires : goal.pending_row-requires
@@ -49,3 +53,32 @@ returns-in-Row-clause-sound g c = λ contents s. sound-pending c.args.self.now c
 
 pub returns-in-Behind-clause-sound : goal.returns-in-Behind-clause-sound
 returns-in-Behind-clause-sound g c = λ contents s. sound-pending c.args.self.now c.in-Pending.row contents c.in-Pending.is
+
+pub returns-in_default : goal.returns-in_default
+returns-in_default g c =
+    record {
+      goes = λ contents reads. goes-still c.args.self.now contents reads;
+      sound = λ contents s. s;
+      here = refl;
+      end = pending-or-ended c.args.self.now.place c.requires.behind (λ row e. c.in_default.not-Pending row e);
+      stays_ended = λ e. refl;
+      behind = c.requires.behind;
+    }
+
+pub returns-in-Row-clause-stays_ended : goal.returns-in-Row-clause-stays_ended
+returns-in-Row-clause-stays_ended g c = λ e. absurd (true≢false (sym e ∙ ap is_end c.in-Pending.is))
+
+pub returns-in-Row-clause-behind : goal.returns-in-Row-clause-behind
+returns-in-Row-clause-behind g c = subst (λ (new : Cursor g.row.KNOTS g.row.SLOTS). is_at_pages new.place ≡ false) (sym c.take.ensures) (taken-behind (is_last c.args.self.now.mark.top c.key-key.result) (c.in-Row.row + 1))
+
+pub returns-in-Behind-clause-here : goal.returns-in-Behind-clause-here
+returns-in-Behind-clause-here g c = refl
+
+pub returns-in-Behind-clause-end : goal.returns-in-Behind-clause-end
+returns-in-Behind-clause-end g c = refl
+
+pub returns-in-Behind-clause-stays_ended : goal.returns-in-Behind-clause-stays_ended
+returns-in-Behind-clause-stays_ended g c = λ e. refl
+
+pub returns-in-Behind-clause-behind : goal.returns-in-Behind-clause-behind
+returns-in-Behind-clause-behind g c = refl
