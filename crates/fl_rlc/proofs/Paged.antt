@@ -1,5 +1,5 @@
 -- The page of a log, over its seal and what came before.
-use Rattle.std.proofs.Common.{◌≡◌, ℕ, ◌+◌, Option, Some, None, option_map, unwrap_or, IfSome, Result, Ok, Err, OnOk, List, [], ◌∷◌, ◌++◌, IsTrue, length, sym, ◌∙◌, ap, subst, arith}
+use Rattle.std.proofs.Common.{◌≡◌, ℕ, Option, Some, None, option_map, unwrap_or, IfSome, Result, Ok, Err, OnOk, List, [], ◌∷◌, ◌++◌, IsTrue, length, sym, ◌∙◌, ap, subst, arith}
 use Rattle.fl_base.specs.declared.types.Geometry.{Geometry}
 use Rattle.fl_flash.specs.Flash.{FlashState, page_at}
 use Rattle.fl_flash.specs.declared.flash.FlashFault.{FlashFault}

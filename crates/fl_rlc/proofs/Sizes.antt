@@ -1,5 +1,5 @@
 -- The room that a table with a log takes, whatever the numbers of its knots and slots.
-use Rattle.std.proofs.Common.{ℕ, ◌+◌, ◌*◌, ◌^◌, ◌<◌, ◌≤◌, arith}
+use Rattle.std.proofs.Common.{◌≡◌, ℕ, ◌+◌, ◌*◌, ◌^◌, ◌<◌, ◌≤◌, arith}
 use prog.Memory.{up}
 use Rattle.fl_parts.proofs.Sizes.{side-by-side, at-eight, after-eight, after-four, whole, at-one}
 
@@ -11,3 +11,10 @@ logged-fits knots slots few_knots few_slots =
     let spline = at-eight 8 (after-eight 48 (at-eight 8 (at-one (after-eight 8 (at-eight 0 knots_end))))) in
     let radix = at-eight 16 (at-one (after-eight 8 (at-eight 0 slots_end))) in
     whole (after-eight 96 (at-eight 0 (after-four 4 (after-eight 88 (after-eight 120 (at-eight 264 (side-by-side spline radix))))))) (omega arith)
+
+-- the bytes of a page, of which a row and its header take a part
+pub some-bytes : (n page row : ℕ) → n ≡ page → row + 24 ≤ page → 24 ≤ n
+some-bytes n page row is room = omega (arith, is, room)
+
+pub few-bytes : (n page : ℕ) → n ≡ page → page ≤ 4096 → n ≤ 4096
+few-bytes n page is few = omega (arith, is, few)

@@ -22,13 +22,14 @@ use Rattle.fl_page.proofs.RowsFrom.{length-rows_from}
 use Rattle.fl_table.specs.Look.{layout_in}
 use Rattle.fl_table.specs.Standing.{Stands}
 use Rattle.fl_table.proofs.SealAnswers.{plan-self, same-then}
-use Rattle.fl_parts.proofs.Sizes.{table-fits}
+use Rattle.fl_parts.proofs.Sizes.{table-fits, view-fits}
 use Rattle.fl_rlc.specs.Joining.{all_taken}
 use Rattle.fl_rlc.specs.Offering.{AreOffered}
 use Rattle.fl_rlc.proofs.Joined.{taken-push, joined-is}
 use Rattle.fl_rlc.proofs.OfferedRecords.{offered-next}
 use Rattle.fl_rlc.proofs.PutFrames.{blobs-same}
 use Rattle.fl_rlc.proofs.TakenRecord.{fits-bare, room-for}
+use Rattle.fl_rlc.proofs.Sizes.{few-bytes}
 use Rattle.fl_rlc.proofs.join.join_rows.Goals as goal
 
 take-more : {X : Type 0} (i : ℕ) (xs : List X) (x : X) → slice_get xs i ≡ Some x → take (suc i) xs ≡ take i xs ++ x ∷ []
@@ -158,3 +159,24 @@ returns-clause-joins g c = λ first plan table_now rose device watched s none pa
     subst (λ (x : model.Table). Stands c.loop-i.table (g.F.Flash.state c.loop-i.flash) first (bare plan) x)
     (ap (λ (n : ℕ). all_taken (bare_table table_now) (take n es)) end ∙ (ap (all_taken (bare_table table_now)) (take-length es) ∙ sym (joined-is plan table_now none page)))
     (c.loop-i.invariant.joins first plan table_now rose device before s page rows)
+
+pub returns-clause-still : goal.returns-clause-still
+returns-clause-still g c = c.loop-i.invariant.still
+
+pub returns-clause-same : goal.returns-clause-same
+returns-clause-same g c = c.loop-i.invariant.same
+
+pub returns-clause-lies : goal.returns-clause-lies
+returns-clause-lies g c = c.loop-i.invariant.lies
+
+pub returns-clause-running : goal.returns-clause-running
+returns-clause-running g c = c.loop-i.invariant.running
+
+pub returns-clause-calm : goal.returns-clause-calm
+returns-clause-calm g c = c.loop-i.invariant.calm
+
+pub rows-i-end-requires : goal.rows-i-end-requires
+rows-i-end-requires g c = view-fits
+
+pub view-requires : goal.view-requires
+view-requires g c = (table-fits g.row.KNOTS g.row.SLOTS c.args.table.now.few_knots c.args.table.now.few_slots, (c.requires.good, few-bytes _ _ (c.requires.size ∙ ap (λ (x : Geometry). x.page) c.requires.lies.geometry) c.args.table.now.served.page_greatest))

@@ -1,4 +1,4 @@
-use Rattle.std.proofs.Common.{◌≡◌, ℕ, ◌≤◌, true, List, IsTrue, refl, sym, ◌∙◌, ap, subst}
+use Rattle.std.proofs.Common.{◌≡◌, ℕ, ◌≤◌, true, List, IsTrue, refl, sym, ◌∙◌, ap, subst, length}
 use Rattle.std.proofs.lemmas.Result.{err_from_is_err_and}
 use Rattle.fl_flash.specs.Flash.{FlashState}
 use Rattle.fl_model.specs.Bare.{bare, bare_table}
@@ -21,6 +21,8 @@ use Rattle.fl_rlc.specs.Pages.{log_body}
 use Rattle.fl_rlc.specs.Replaying.{MayStand, IsBad}
 use Rattle.fl_rlc.proofs.NewestRead.{never-bad, bad-of_pages, bad-no_flash, read-fails, device-reads, newest-read}
 use Rattle.fl_rlc.proofs.OfferedRecords.{none-joined}
+use Rattle.fl_base.specs.declared.types.Geometry.{Geometry}
+use Rattle.fl_rlc.proofs.Sizes.{some-bytes, few-bytes}
 use Rattle.fl_rlc.proofs.replay.join_newest.Goals as goal
 
 pub returns-in_err-read-clause-unjoined : goal.returns-in_err-read-clause-unjoined
@@ -223,3 +225,15 @@ schema-requires g c = table-fits g.row.KNOTS g.row.SLOTS c.args.table.now.few_kn
 
 pub check_page-requires-clause-row : goal.check_page-requires-clause-row
 check_page-requires-clause-row g c = subst (λ (l : RowLayout). 1 ≤ layout_len l) (sym c.schema.ensures.exact) c.args.table.now.some_row
+
+pub check_page-requires-clause-least : goal.check_page-requires-clause-least
+check_page-requires-clause-least g c =
+    let n : length c.bytes.result.now ≡ c.args.table.now.geometry.page =
+    ap (λ (b : List ℕ). length b) c.bytes.ensures ∙ (c.in_ok-read.ensures.room ∙ (c.requires.room ∙ ap (λ (x : Geometry). x.page) c.requires.table_lies.geometry)) in
+    some-bytes _ _ _ n c.args.table.now.room_for_row
+
+pub check_page-requires-clause-most : goal.check_page-requires-clause-most
+check_page-requires-clause-most g c =
+    let n : length c.bytes.result.now ≡ c.args.table.now.geometry.page =
+    ap (λ (b : List ℕ). length b) c.bytes.ensures ∙ (c.in_ok-read.ensures.room ∙ (c.requires.room ∙ ap (λ (x : Geometry). x.page) c.requires.table_lies.geometry)) in
+    few-bytes _ _ n c.args.table.now.served.page_greatest

@@ -1,4 +1,4 @@
-use Rattle.std.proofs.Common.{ℕ, ◌+◌, Some, None, inl, inr, IsTrue, refl, sym, ◌∙◌, ap, subst, arith}
+use Rattle.std.proofs.Common.{ℕ, ◌+◌, Some, None, inl, inr, IsTrue, refl, sym, ◌∙◌, ap, subst, arith, length}
 use Rattle.std.proofs.lemmas.Result.{err_from_is_err_and}
 use Rattle.std.specs.Prelude.{Option, List}
 use Rattle.fl_flash.specs.Flash.{page_at}
@@ -13,7 +13,7 @@ use Rattle.fl_ring.proofs.Founds.{same_pages}
 use Rattle.fl_parts.specs.Faults.{IfPage}
 use Rattle.fl_table.specs.Look.{layout_in}
 use Rattle.fl_frame.proofs.WatchedInTurn.{watched-first, watched-then, cause-later}
-use Rattle.fl_parts.proofs.MountParts.{pages-cause}
+use Rattle.fl_parts.proofs.MountParts.{pages-cause, ring-cause}
 use Rattle.fl_table.proofs.Outsides.{outside-same}
 use Rattle.fl_table.proofs.SealAnswers.{plan-self, same-then}
 use Rattle.fl_parts.proofs.Sizes.{table-fits}
@@ -32,6 +32,7 @@ use Rattle.fl_rlc.proofs.ReplayLeft.{no-var-blocks, joined-rings, none-leaves, s
 use Rattle.fl_rlc.proofs.Replays.{begun-stands, begun-none, begun-ring, log-fault, none-well, page-fault, seal-well, seal-badly}
 use Rattle.fl_rlc.proofs.SealsInTable.{pages-size}
 use Rattle.fl_rlc.proofs.Written.{repairs-log, repairs-read, repairs-sealed}
+use Rattle.fl_flash.specs.Buffer.{BufferState}
 use Rattle.fl_rlc.proofs.replay.replay.Goals as goal
 
 -- ---- the ring is refused
@@ -457,3 +458,189 @@ returns-clause-repairs g c =
     let log = c.in_ok-newest.ensures.beside in
     repairs-sealed c.args.table.now c.join_newest-joined.new.table 1 (g.F.Flash.state c.args.flash.now) (g.F.Flash.state c.mount.new.flash) (g.F.Flash.state c.join_newest-joined.new.flash) (g.F.Flash.state c.seal_rows.new.flash)
     c.in_ok-joined.ensures.same log.few_programs log.few_erases c.in_ok-joined.ensures.reads c.in_ok-seal_rows.ensures.writes
+
+pub mount-requires-clause-lies : goal.mount-requires-clause-lies
+mount-requires-clause-lies g c = c.requires.lies
+
+pub mount-requires-clause-room : goal.mount-requires-clause-room
+mount-requires-clause-room g c = c.requires.room
+
+pub seal_rows-requires : goal.seal_rows-requires
+seal_rows-requires g c = (table-fits g.row.KNOTS g.row.SLOTS c.args.table.now.few_knots c.args.table.now.few_slots, (c.in_ok-joined.ensures.running, c.in_ok-joined.ensures.lies))
+
+pub returns-in_err-newest-clause-mounted : goal.returns-in_err-newest-clause-mounted
+returns-in_err-newest-clause-mounted g c = let p = err_from_is_err_and c.from_residual.result c.from_residual.ensures.1 in rw p.1 tt
+
+pub returns-in_err-newest-clause-running : goal.returns-in_err-newest-clause-running
+returns-in_err-newest-clause-running g c = let p = err_from_is_err_and c.from_residual.result c.from_residual.ensures.1 in rw p.1 tt
+
+pub returns-in_err-newest-clause-calm : goal.returns-in_err-newest-clause-calm
+returns-in_err-newest-clause-calm g c = let p = err_from_is_err_and c.from_residual.result c.from_residual.ensures.1 in rw p.1 tt
+
+pub returns-in_err-newest-clause-table_empty : goal.returns-in_err-newest-clause-table_empty
+returns-in_err-newest-clause-table_empty g c = let p = err_from_is_err_and c.from_residual.result c.from_residual.ensures.1 in rw p.1 tt
+
+pub returns-in_err-newest-clause-found : goal.returns-in_err-newest-clause-found
+returns-in_err-newest-clause-found g c = let p = err_from_is_err_and c.from_residual.result c.from_residual.ensures.1 in rw p.1 tt
+
+pub returns-in_err-newest-clause-leaves : goal.returns-in_err-newest-clause-leaves
+returns-in_err-newest-clause-leaves g c = let p = err_from_is_err_and c.from_residual.result c.from_residual.ensures.1 in rw p.1 tt
+
+pub returns-in_err-newest-clause-power : goal.returns-in_err-newest-clause-power
+returns-in_err-newest-clause-power g c = let p = err_from_is_err_and c.from_residual.result c.from_residual.ensures.1 in rw p.1 tt
+
+pub returns-in_err-joined-clause-mounted : goal.returns-in_err-joined-clause-mounted
+returns-in_err-joined-clause-mounted g c = let p = err_from_is_err_and c.from_residual-in_err-joined.result c.from_residual-in_err-joined.ensures.1 in rw p.1 tt
+
+pub returns-in_err-joined-clause-running : goal.returns-in_err-joined-clause-running
+returns-in_err-joined-clause-running g c = let p = err_from_is_err_and c.from_residual-in_err-joined.result c.from_residual-in_err-joined.ensures.1 in rw p.1 tt
+
+pub returns-in_err-joined-clause-calm : goal.returns-in_err-joined-clause-calm
+returns-in_err-joined-clause-calm g c = let p = err_from_is_err_and c.from_residual-in_err-joined.result c.from_residual-in_err-joined.ensures.1 in rw p.1 tt
+
+pub returns-in_err-joined-clause-table_empty : goal.returns-in_err-joined-clause-table_empty
+returns-in_err-joined-clause-table_empty g c = let p = err_from_is_err_and c.from_residual-in_err-joined.result c.from_residual-in_err-joined.ensures.1 in rw p.1 tt
+
+pub returns-in_err-joined-clause-found : goal.returns-in_err-joined-clause-found
+returns-in_err-joined-clause-found g c = let p = err_from_is_err_and c.from_residual-in_err-joined.result c.from_residual-in_err-joined.ensures.1 in rw p.1 tt
+
+pub returns-in_err-joined-clause-leaves : goal.returns-in_err-joined-clause-leaves
+returns-in_err-joined-clause-leaves g c = let p = err_from_is_err_and c.from_residual-in_err-joined.result c.from_residual-in_err-joined.ensures.1 in rw p.1 tt
+
+pub returns-in_err-joined-clause-power : goal.returns-in_err-joined-clause-power
+returns-in_err-joined-clause-power g c = let p = err_from_is_err_and c.from_residual-in_err-joined.result c.from_residual-in_err-joined.ensures.1 in rw p.1 tt
+
+pub returns-in_err-seal_rows-clause-mounted : goal.returns-in_err-seal_rows-clause-mounted
+returns-in_err-seal_rows-clause-mounted g c = let p = err_from_is_err_and c.from_residual-in_err-seal_rows.result c.from_residual-in_err-seal_rows.ensures.1 in rw p.1 tt
+
+pub returns-in_err-seal_rows-clause-running : goal.returns-in_err-seal_rows-clause-running
+returns-in_err-seal_rows-clause-running g c = let p = err_from_is_err_and c.from_residual-in_err-seal_rows.result c.from_residual-in_err-seal_rows.ensures.1 in rw p.1 tt
+
+pub returns-in_err-seal_rows-clause-calm : goal.returns-in_err-seal_rows-clause-calm
+returns-in_err-seal_rows-clause-calm g c = let p = err_from_is_err_and c.from_residual-in_err-seal_rows.result c.from_residual-in_err-seal_rows.ensures.1 in rw p.1 tt
+
+pub returns-in_err-seal_rows-clause-table_empty : goal.returns-in_err-seal_rows-clause-table_empty
+returns-in_err-seal_rows-clause-table_empty g c = let p = err_from_is_err_and c.from_residual-in_err-seal_rows.result c.from_residual-in_err-seal_rows.ensures.1 in rw p.1 tt
+
+pub returns-in_err-seal_rows-clause-found : goal.returns-in_err-seal_rows-clause-found
+returns-in_err-seal_rows-clause-found g c = let p = err_from_is_err_and c.from_residual-in_err-seal_rows.result c.from_residual-in_err-seal_rows.ensures.1 in rw p.1 tt
+
+pub returns-in_err-seal_rows-clause-leaves : goal.returns-in_err-seal_rows-clause-leaves
+returns-in_err-seal_rows-clause-leaves g c = let p = err_from_is_err_and c.from_residual-in_err-seal_rows.result c.from_residual-in_err-seal_rows.ensures.1 in rw p.1 tt
+
+pub returns-in_err-seal_rows-clause-power : goal.returns-in_err-seal_rows-clause-power
+returns-in_err-seal_rows-clause-power g c = let p = err_from_is_err_and c.from_residual-in_err-seal_rows.result c.from_residual-in_err-seal_rows.ensures.1 in rw p.1 tt
+
+pub returns-in_err-newest-clause-goes : goal.returns-in_err-newest-clause-goes
+returns-in_err-newest-clause-goes g c = c.in_err-newest.ensures.beside.goes
+
+pub returns-in_err-newest-clause-same : goal.returns-in_err-newest-clause-same
+returns-in_err-newest-clause-same g c = c.in_err-newest.ensures.same
+
+pub returns-in_err-newest-clause-lies : goal.returns-in_err-newest-clause-lies
+returns-in_err-newest-clause-lies g c = c.in_err-newest.ensures.lies
+
+pub returns-in_err-newest-clause-room : goal.returns-in_err-newest-clause-room
+returns-in_err-newest-clause-room g c = c.in_err-newest.ensures.room
+
+pub returns-in_err-newest-clause-holds : goal.returns-in_err-newest-clause-holds
+returns-in_err-newest-clause-holds g c = c.in_err-newest.ensures.holds
+
+pub returns-in_err-newest-clause-empty : goal.returns-in_err-newest-clause-empty
+returns-in_err-newest-clause-empty g c = c.in_err-newest.ensures.empty
+
+pub returns-in_err-newest-clause-table_same : goal.returns-in_err-newest-clause-table_same
+returns-in_err-newest-clause-table_same g c = plan-self c.args.table.now
+
+pub returns-in_err-newest-clause-refused : goal.returns-in_err-newest-clause-refused
+returns-in_err-newest-clause-refused g c = let p = err_from_is_err_and c.from_residual.result c.from_residual.ensures.1 in rw (p.1, p.2) (λ told. inl (record { why = c.in_err-newest.field-0.0; fault_is = refl; found = c.in_err-newest.ensures.fault; fails = c.in_err-newest.ensures.fails }))
+
+pub returns-in_err-newest-clause-cause : goal.returns-in_err-newest-clause-cause
+returns-in_err-newest-clause-cause g c = let p = err_from_is_err_and c.from_residual.result c.from_residual.ensures.1 in rw (p.1, p.2) (ring-cause (g.F.Flash.state c.args.flash.now) (g.F.Flash.state c.mount.new.flash) c.in_err-newest.field-0.0 c.in_err-newest.ensures.cause)
+
+pub returns-in_default-clause-goes : goal.returns-in_default-clause-goes
+returns-in_default-clause-goes g c = c.in_ok-newest.ensures.beside.goes
+
+pub returns-in_default-clause-same : goal.returns-in_default-clause-same
+returns-in_default-clause-same g c = c.in_ok-newest.ensures.same
+
+pub returns-in_default-clause-lies : goal.returns-in_default-clause-lies
+returns-in_default-clause-lies g c = c.in_ok-newest.ensures.lies
+
+pub returns-in_default-clause-room : goal.returns-in_default-clause-room
+returns-in_default-clause-room g c = c.in_ok-newest.ensures.room
+
+pub returns-in_default-clause-holds : goal.returns-in_default-clause-holds
+returns-in_default-clause-holds g c = c.in_ok-newest.ensures.holds
+
+pub returns-in_default-clause-empty : goal.returns-in_default-clause-empty
+returns-in_default-clause-empty g c = c.in_ok-newest.ensures.empty
+
+pub returns-in_default-clause-mounted : goal.returns-in_default-clause-mounted
+returns-in_default-clause-mounted g c = c.in_ok-newest.ensures.mounted
+
+pub returns-in_default-clause-power : goal.returns-in_default-clause-power
+returns-in_default-clause-power g c = c.in_ok-newest.ensures.power
+
+pub returns-in_default-clause-running : goal.returns-in_default-clause-running
+returns-in_default-clause-running g c = c.requires.running
+
+pub returns-in_default-clause-calm : goal.returns-in_default-clause-calm
+returns-in_default-clause-calm g c = refl
+
+pub returns-in_err-joined-clause-same : goal.returns-in_err-joined-clause-same
+returns-in_err-joined-clause-same g c = c.in_ok-newest.ensures.same
+
+pub returns-in_err-joined-clause-empty : goal.returns-in_err-joined-clause-empty
+returns-in_err-joined-clause-empty g c = c.in_ok-newest.ensures.empty
+
+pub returns-in_err-joined-clause-holds : goal.returns-in_err-joined-clause-holds
+returns-in_err-joined-clause-holds g c = ap (λ (b : BufferState). b.holds) c.forget.ensures
+
+pub returns-in_err-joined-clause-room : goal.returns-in_err-joined-clause-room
+returns-in_err-joined-clause-room g c = ap (λ (b : BufferState). length b.bytes) c.forget.ensures ∙ (c.in_err-joined.ensures.room ∙ c.in_ok-newest.ensures.room)
+
+pub returns-in_err-seal_rows-clause-same : goal.returns-in_err-seal_rows-clause-same
+returns-in_err-seal_rows-clause-same g c = c.in_ok-newest.ensures.same
+
+pub returns-in_err-seal_rows-clause-empty : goal.returns-in_err-seal_rows-clause-empty
+returns-in_err-seal_rows-clause-empty g c = c.in_ok-newest.ensures.empty
+
+pub returns-in_err-seal_rows-clause-holds : goal.returns-in_err-seal_rows-clause-holds
+returns-in_err-seal_rows-clause-holds g c = ap (λ (b : BufferState). b.holds) c.forget.ensures
+
+pub returns-in_err-seal_rows-clause-room : goal.returns-in_err-seal_rows-clause-room
+returns-in_err-seal_rows-clause-room g c = ap (λ (b : BufferState). length b.bytes) c.forget.ensures ∙ (c.in_ok-joined.ensures.room ∙ c.in_ok-newest.ensures.room)
+
+pub returns-clause-same : goal.returns-clause-same
+returns-clause-same g c = c.in_ok-newest.ensures.same
+
+pub returns-clause-empty : goal.returns-clause-empty
+returns-clause-empty g c = c.in_ok-newest.ensures.empty
+
+pub returns-clause-holds : goal.returns-clause-holds
+returns-clause-holds g c = ap (λ (b : BufferState). b.holds) c.forget.ensures
+
+pub returns-clause-room : goal.returns-clause-room
+returns-clause-room g c = ap (λ (b : BufferState). length b.bytes) c.forget.ensures ∙ (c.in_ok-joined.ensures.room ∙ c.in_ok-newest.ensures.room)
+
+pub returns-in_err-joined-clause-table_same : goal.returns-in_err-joined-clause-table_same
+returns-in_err-joined-clause-table_same g c = c.in_err-joined.ensures.same
+
+pub returns-in_err-joined-clause-table_lies : goal.returns-in_err-joined-clause-table_lies
+returns-in_err-joined-clause-table_lies g c = c.in_err-joined.ensures.lies
+
+pub returns-in_err-seal_rows-clause-table_lies : goal.returns-in_err-seal_rows-clause-table_lies
+returns-in_err-seal_rows-clause-table_lies g c = c.in_err-seal_rows.ensures.lies
+
+pub returns-clause-table_lies : goal.returns-clause-table_lies
+returns-clause-table_lies g c = c.in_ok-seal_rows.ensures.lies
+
+pub returns-clause-mounted : goal.returns-clause-mounted
+returns-clause-mounted g c = c.in_ok-newest.ensures.mounted
+
+pub returns-clause-running : goal.returns-clause-running
+returns-clause-running g c = c.in_ok-seal_rows.ensures.running
+
+pub returns-clause-calm : goal.returns-clause-calm
+returns-clause-calm g c = c.in_ok-seal_rows.ensures.calm ∙ c.in_ok-joined.ensures.calm

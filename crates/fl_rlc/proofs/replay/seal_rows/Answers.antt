@@ -1,10 +1,12 @@
-use Rattle.std.proofs.Common.{◌≡◌, Bool, true, not, ◌&&◌, Result, Ok, Err, ◌∙◌, ap, subst}
+use Rattle.std.proofs.Common.{◌≡◌, Bool, true, not, ◌&&◌, Result, Ok, Err, ◌∙◌, ap, subst, sym}
 use Rattle.fl_table.specs.Causes.{FlushCausedBy, flush_breaks}
 use Rattle.fl_table.specs.Outcomes.{FlushEnds}
 use Rattle.fl_table.specs.declared.faults.FlushFault.{FlushFault}
 use Rattle.fl_table.specs.Memory.{is_running, pending_in}
 use Rattle.fl_parts.proofs.Untouched.{and-false}
 use Rattle.fl_rlc.proofs.OfferedRecords.{some-there}
+use Rattle.fl_parts.proofs.Sizes.{table-fits}
+use Rattle.std.proofs.lemmas.Bool.{true≢false}
 use Rattle.fl_rlc.proofs.replay.seal_rows.Goals as goal
 
 pub returns-in-Ok-clause-ends : goal.returns-in-Ok-clause-ends
@@ -101,3 +103,12 @@ returns-in-Err-Flash-clause-running g c =
 pub returns-in-Err-Flash-clause-cause : goal.returns-in-Err-Flash-clause-cause
 returns-in-Err-Flash-clause-cause g c =
     subst (λ (e : FlushFault). FlushCausedBy (g.F.Flash.state c.args.flash.now) e (g.F.Flash.state c.flush.new.flash)) c.in-Err-Flash.field-0-is c.in-Err-Flash.ensures.flash.cause
+
+pub flush-requires : goal.flush-requires
+flush-requires g c = (table-fits g.row.KNOTS g.row.SLOTS c.args.table.now.few_knots c.args.table.now.few_slots, c.requires.lies)
+
+pub unreachable-requires : goal.unreachable-requires
+unreachable-requires g c = true≢false (sym c.requires.running ∙ c.in-Err-Stopped.ensures.exact.0 (ap (λ (e : FlushFault). Err e) c.in-Err-Stopped.field-0-is))
+
+pub unreachable-unreachable : goal.unreachable-unreachable
+unreachable-unreachable g c = c.unreachable.type_inv

@@ -1,4 +1,4 @@
-use Rattle.std.proofs.Common.{cond, is_some, Option, Some, sym, subst, arith}
+use Rattle.std.proofs.Common.{cond, is_some, Option, Some, sym, subst, arith, Bool, refl, ◌∙◌, ap}
 use Rattle.fl_ring.specs.Written.{MaySealIn, Writes, done}
 use Rattle.fl_ring.specs.declared.ring.Ring.{Ring}
 use Rattle.fl_ring.proofs.Written.{writes-none, writes-wider}
@@ -8,10 +8,14 @@ use Rattle.fl_var.specs.Ahead.{AheadBlank}
 use Rattle.fl_rlc.specs.Memory.{MaySeal, LogAhead}
 use Rattle.fl_rlc.specs.Paged.{RowLogged}
 use Rattle.fl_rlc.specs.Rows.{RowEnds, HaveLogged}
-use Rattle.fl_rlc.specs.Table.{MaySealLog}
+use Rattle.fl_rlc.specs.Table.{MaySealLog, AreSameLog}
 use Rattle.fl_rlc.specs.declared.log.RecordLog.{RecordLog}
 use Rattle.fl_rlc.proofs.JoinedRow.{joined-ready, joined-logged, seal-moved}
 use Rattle.fl_rlc.proofs.Paged.{row-logged}
+use Rattle.std.proofs.lemmas.Bool.{true≢false}
+use Rattle.fl_frame.proofs.CallsInTurn.{goes-same}
+use Rattle.fl_rlc.proofs.MountFound.{log-here}
+use Rattle.fl_rlc.proofs.PutFrames.{log-self}
 use Rattle.fl_rlc.proofs.rows.log_row.Goals as goal
 use Rattle.fl_schema.specs.Schema.{layout_of}
 use Rattle.std.specs.Prelude.{None, OnOk, IfSome, IsTrue}
@@ -61,3 +65,69 @@ returns-in-Some-clause-page g c =
     let row : Row = record { key = c.args.key; values = c.args.values.now; blob = None } in
     subst (λ (o : Option RecordLog). OnOk c.seal.result (IsTrue (g.F.Flash.state c.args.flash.now).media.tells → RowLogged (layout_of c.args.schema.now) (record { key = c.args.key; values = c.args.values.now; blob = None }) o (page_at (g.F.Flash.state c.args.flash.now)) (page_at (g.F.Flash.state c.seal.new.flash)))) (sym c.in-Some.is)
     (row-logged (layout_of c.args.schema.now) row c.in-Some.log c.add.new.self c.seal.result f new c.add.ensures.same c.add.ensures.ring c.add.ensures.joins c.seal.ensures.page)
+
+pub add-requires-clause-fits : goal.add-requires-clause-fits
+add-requires-clause-fits g c = c.requires.fits
+
+pub add-requires-clause-room : goal.add-requires-clause-room
+add-requires-clause-room g c = c.requires.room c.in-Some.log c.in-Some.is
+
+pub seal-requires-clause-mounted : goal.seal-requires-clause-mounted
+seal-requires-clause-mounted g c = ap (λ (o : Option Ring). is_some o) c.add.ensures.ring ∙ c.requires.mounted c.in-Some.log c.in-Some.is
+
+pub seal-requires-clause-lies : goal.seal-requires-clause-lies
+seal-requires-clause-lies g c = c.add.ensures.lies (g.F.Flash.state c.args.flash.now) (c.requires.lies c.in-Some.log c.in-Some.is)
+
+pub returns-in-None-clause-goes : goal.returns-in-None-clause-goes
+returns-in-None-clause-goes g c = goes-same (g.F.Flash.state c.args.flash.now)
+
+pub returns-in-None-clause-same : goal.returns-in-None-clause-same
+returns-in-None-clause-same g c = log-self c.args.log.now
+
+pub returns-in-None-clause-lies : goal.returns-in-None-clause-lies
+returns-in-None-clause-lies g c = c.requires.lies
+
+pub returns-in-None-clause-mounted : goal.returns-in-None-clause-mounted
+returns-in-None-clause-mounted g c = c.requires.mounted
+
+pub returns-in-None-clause-ends : goal.returns-in-None-clause-ends
+returns-in-None-clause-ends g c = rw c.in-None.is (λ first plan table rose device. (refl, refl, refl))
+
+pub returns-in-None-clause-logs : goal.returns-in-None-clause-logs
+returns-in-None-clause-logs g c = rw c.in-None.is refl
+
+pub returns-in-None-clause-outside : goal.returns-in-None-clause-outside
+returns-in-None-clause-outside g c = rw c.in-None.is (λ told page. refl)
+
+pub returns-in-None-clause-reads : goal.returns-in-None-clause-reads
+returns-in-None-clause-reads g c = refl
+
+pub returns-in-None-clause-alone : goal.returns-in-None-clause-alone
+returns-in-None-clause-alone g c = λ none. (refl, refl)
+
+pub returns-in-None-clause-off : goal.returns-in-None-clause-off
+returns-in-None-clause-off g c = λ some. absurd (true≢false (sym some ∙ ap {B = Bool} (λ (o : Option RecordLog). is_some o) c.in-None.is))
+
+pub returns-in-None-clause-power : goal.returns-in-None-clause-power
+returns-in-None-clause-power g c = λ on. on
+
+pub returns-in-Some-clause-goes : goal.returns-in-Some-clause-goes
+returns-in-Some-clause-goes g c = c.seal.ensures.goes
+
+pub returns-in-Some-clause-same : goal.returns-in-Some-clause-same
+returns-in-Some-clause-same g c = subst (λ (o : Option RecordLog). AreSameLog o (Some c.seal.new.self)) (sym c.in-Some.is) (record { geometry = c.seal.ensures.same.geometry ∙ c.add.ensures.same.geometry; place = c.seal.ensures.same.place ∙ c.add.ensures.same.place })
+
+pub returns-in-Some-clause-lies : goal.returns-in-Some-clause-lies
+returns-in-Some-clause-lies g c = log-here c.seal.new.self (g.F.Flash.state c.seal.new.flash) c.seal.ensures.lies
+
+pub returns-in-Some-clause-reads : goal.returns-in-Some-clause-reads
+returns-in-Some-clause-reads g c = c.seal.ensures.reads
+
+pub returns-in-Some-clause-alone : goal.returns-in-Some-clause-alone
+returns-in-Some-clause-alone g c = λ none. absurd (true≢false (sym (ap {B = Bool} (λ (o : Option RecordLog). is_some o) c.in-Some.is) ∙ none))
+
+pub returns-in-Some-clause-off : goal.returns-in-Some-clause-off
+returns-in-Some-clause-off g c = λ some. c.seal.ensures.off
+
+pub returns-in-Some-clause-cause : goal.returns-in-Some-clause-cause
+returns-in-Some-clause-cause g c = c.seal.ensures.cause

@@ -212,3 +212,9 @@ invariant_of-self-2 g c = record {
 
 pub flush-requires : goal.flush-requires
 flush-requires g c = (table-fits g.row.KNOTS g.row.SLOTS c.args.self.now.table.few_knots c.args.self.now.table.few_slots, c.requires.lies.table)
+
+pub pending_rows-requires : goal.pending_rows-requires
+pending_rows-requires g c = table-fits g.row.KNOTS g.row.SLOTS c.args.self.now.table.few_knots c.args.self.now.table.few_slots
+
+pub flush-requires-2 : goal.flush-requires-2
+flush-requires-2 g c = (table-fits g.row.KNOTS g.row.SLOTS c.args.self.now.table.few_knots c.args.self.now.table.few_slots, c.requires.lies.table)

@@ -1,4 +1,4 @@
-use Rattle.std.proofs.Common.{◌≡◌, ◌⊎◌, ℕ, ◌+◌, Bool, false, Option, Some, IfSome, Result, Ok, Err, [], IsTrue, is_some, inl, inr, refl, sym, ◌∙◌, ap, subst, arith}
+use Rattle.std.proofs.Common.{◌≡◌, ◌⊎◌, ℕ, ◌+◌, Bool, false, Option, Some, IfSome, Result, Ok, Err, [], IsTrue, is_some, inl, inr, refl, sym, ◌∙◌, ap, subst, arith, true}
 use Rattle.std.proofs.lemmas.Result.{err_from_is_err_and}
 use Rattle.std.proofs.lemmas.Bool.{true≢false}
 use Rattle.std.proofs.lemmas.Option.{same_Some, none-some}
@@ -21,7 +21,7 @@ use Rattle.fl_table.proofs.SealAnswers.{same-then}
 use Rattle.fl_parts.proofs.Sizes.{table-fits}
 use Rattle.fl_rlc.specs.Left.{LeavesPages}
 use Rattle.fl_rlc.specs.Logged.{Rests as LoggedRests}
-use Rattle.fl_rlc.specs.Memory.{rows_in}
+use Rattle.fl_rlc.specs.Memory.{rows_in, is_mounted}
 use Rattle.fl_rlc.specs.Repairing.{Rests}
 use Rattle.fl_rlc.specs.Replaying.{ReplayEnds}
 use Rattle.fl_rlc.specs.Table.{AreSameLog, IsLogPlanned, IsPlanned, is_logged, log_in}
@@ -33,7 +33,7 @@ use Rattle.fl_rlc.proofs.MountEnded.{bare-mountable, fails, mounts-alone, apart-
 use Rattle.fl_rlc.proofs.MountLimits.{limit-alone, limit-behind}
 use Rattle.fl_rlc.proofs.MountFound.{finds-alone, finds-behind, refuses-behind, outside-both, few-alone, few-both, log-here}
 use Rattle.fl_rlc.proofs.MountLeaves.{bare-leaves, mount-leaves}
-use Rattle.fl_rlc.proofs.PutFrames.{log-self, log-lies, log-moved, blobs-same}
+use Rattle.fl_rlc.proofs.PutFrames.{log-self, log-lies, log-moved, blobs-same, room-same}
 use Rattle.fl_rlc.proofs.Written.{repairs-alone, repairs-both}
 use Rattle.fl_rlc.proofs.table.LoggedTable.mount.Goals as goal
 
@@ -543,3 +543,56 @@ returns-clause-cause g c = tt
 
 pub returns-clause-off : goal.returns-clause-off
 returns-clause-off g c = λ down. absurd (not-lost c.in_ok-mounted.mounted (c.in_ok-mounted.ensures.flash.off down).0)
+
+pub mount-requires : goal.mount-requires
+mount-requires g c = (table-fits g.row.KNOTS g.row.SLOTS c.args.self.now.table.few_knots c.args.self.now.table.few_slots, (c.requires.lies.table, c.requires.room))
+
+pub unmount-requires : goal.unmount-requires
+unmount-requires g c = table-fits g.row.KNOTS g.row.SLOTS c.args.self.now.table.few_knots c.args.self.now.table.few_slots
+
+pub held-requires : goal.held-requires
+held-requires g c = table-fits g.row.KNOTS g.row.SLOTS c.args.self.now.table.few_knots c.args.self.now.table.few_slots
+
+pub invariant_of-self : goal.invariant_of-self
+invariant_of-self g c =
+    record {
+      running = λ l is up. absurd (true≢false (sym up ∙ c.in_err-mounted.ensures.memory.mounted));
+      no_blobs = λ some. blobs-same c.args.self.now.table c.mount.new.self c.in_err-mounted.ensures.memory.same ∙ c.args.self.now.no_blobs some;
+      room = room-same c.args.self.now.table c.mount.new.self c.args.self.now.log c.args.self.now.log c.in_err-mounted.ensures.memory.same (log-self c.args.self.now.log) c.args.self.now.room;
+    }
+
+pub invariant_of-self-in_default : goal.invariant_of-self-in_default
+invariant_of-self-in_default g c =
+    record {
+      running = λ l is up. absurd (none-some l (sym c.in_default.is ∙ is));
+      no_blobs = λ some. blobs-same c.args.self.now.table c.mount.new.self c.in_ok-mounted.ensures.memory.same ∙ c.args.self.now.no_blobs some;
+      room = room-same c.args.self.now.table c.mount.new.self c.args.self.now.log c.args.self.now.log c.in_ok-mounted.ensures.memory.same (log-self c.args.self.now.log) c.args.self.now.room;
+    }
+
+pub invariant_of-self-in-Err : goal.invariant_of-self-in-Err
+invariant_of-self-in-Err g c =
+    record {
+      running = λ l is up. absurd (true≢false (sym up ∙ ap (λ (o : Option Ring). is_some o) c.unmount.ensures.forgotten.down));
+      no_blobs = λ some. blobs-same c.replay.new.table c.unmount.new.self c.unmount.ensures.same ∙ (blobs-same c.mount.new.self c.replay.new.table c.in-Err.ensures.table_same ∙ (blobs-same c.args.self.now.table c.mount.new.self c.in_ok-mounted.ensures.memory.same ∙ c.args.self.now.no_blobs (ap {B = Bool} (λ (o : Option RecordLog). is_some o) c.in-Some.is)));
+      room = room-same c.args.self.now.table c.unmount.new.self c.args.self.now.log (Some c.replay.new.log)
+          (same-then c.args.self.now.table c.mount.new.self c.unmount.new.self c.in_ok-mounted.ensures.memory.same (same-then c.mount.new.self c.replay.new.table c.unmount.new.self c.in-Err.ensures.table_same c.unmount.ensures.same))
+          (subst (λ (o : Option RecordLog). AreSameLog o (Some c.replay.new.log)) (sym c.in-Some.is) c.in-Err.ensures.same) c.args.self.now.room;
+    }
+
+pub invariant_of-self-in_default-replay : goal.invariant_of-self-in_default-replay
+invariant_of-self-in_default-replay g c =
+    record {
+      running = λ l is up. subst (λ (x : RecordLog). is_mounted x ≡ true) (same_Some _ _ is) c.in_default-replay.ensures.mounted;
+      no_blobs = λ some. blobs-same c.mount.new.self c.replay.new.table c.in_default-replay.ensures.table_same ∙ (blobs-same c.args.self.now.table c.mount.new.self c.in_ok-mounted.ensures.memory.same ∙ c.args.self.now.no_blobs (ap {B = Bool} (λ (o : Option RecordLog). is_some o) c.in-Some.is));
+      room = room-same c.args.self.now.table c.replay.new.table c.args.self.now.log (Some c.replay.new.log) (same-then c.args.self.now.table c.mount.new.self c.replay.new.table c.in_ok-mounted.ensures.memory.same c.in_default-replay.ensures.table_same)
+          (subst (λ (o : Option RecordLog). AreSameLog o (Some c.replay.new.log)) (sym c.in-Some.is) c.in_default-replay.ensures.same) c.args.self.now.room;
+    }
+
+pub invariant_of-self-2 : goal.invariant_of-self-2
+invariant_of-self-2 g c =
+    record {
+      running = λ l is up. subst (λ (x : RecordLog). is_mounted x ≡ true) (same_Some _ _ is) c.in_default-replay.ensures.mounted;
+      no_blobs = λ some. blobs-same c.mount.new.self c.replay.new.table c.in_default-replay.ensures.table_same ∙ (blobs-same c.args.self.now.table c.mount.new.self c.in_ok-mounted.ensures.memory.same ∙ c.args.self.now.no_blobs (ap {B = Bool} (λ (o : Option RecordLog). is_some o) c.in-Some.is));
+      room = room-same c.args.self.now.table c.replay.new.table c.args.self.now.log (Some c.replay.new.log) (same-then c.args.self.now.table c.mount.new.self c.replay.new.table c.in_ok-mounted.ensures.memory.same c.in_default-replay.ensures.table_same)
+          (subst (λ (o : Option RecordLog). AreSameLog o (Some c.replay.new.log)) (sym c.in-Some.is) c.in_default-replay.ensures.same) c.args.self.now.room;
+    }
