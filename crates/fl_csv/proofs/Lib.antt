@@ -2,6 +2,7 @@ pub mod CsvRecords
 pub mod Blobs
 pub mod Numbers
 pub mod Fields
+mod PutFields
 pub mod Names
 pub mod Plain
 pub mod Sends
