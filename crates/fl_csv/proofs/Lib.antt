@@ -1,4 +1,5 @@
 pub mod CsvRecords
+mod CsvReads
 pub mod Blobs
 pub mod Numbers
 pub mod Fields

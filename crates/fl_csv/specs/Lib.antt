@@ -1,4 +1,5 @@
 pub mod Text
 pub mod Lines
+pub mod Reads
 pub mod Views
 pub mod Laws

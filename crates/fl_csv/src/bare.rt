@@ -20,7 +20,12 @@ fn stands_alone(byte: u8) -> bool
 fn are_alone(bytes: &[u8]) -> bool
     ensures { result ≡ list_all lines.stands_alone bytes.now }
 {
-    bytes.iter().all(|byte| stands_alone(*byte))
+    for byte in bytes {
+        if !stands_alone(*byte) {
+            return false;
+        }
+    }
+    true
 }
 
 /// Whether the fields of a line are what stands between its commas.

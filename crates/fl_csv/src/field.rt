@@ -1,5 +1,5 @@
 // The fields of a record: each is of its form or isn't.
-ghost use Rattle.std.specs.Prelude.{◌≡◌, ◌≢◌, ◌⊎◌, MatchOption, MatchResult, Ok, Err};
+ghost use Rattle.std.specs.Prelude.{◌≡◌, ◌≢◌, ◌⊎◌, ◌≤◌, MatchOption, MatchResult, Ok, Err};
 ghost use Rattle.fl_words.specs.Grammar as grammar;
 ghost use Rattle.fl_csv.specs.Lines as lines;
 ghost use Rattle.fl_csv.specs.Lines.{blob_of};
@@ -9,6 +9,14 @@ use crate::{BlobBytes, CsvRefusal, GoneBlobs};
 use hex::FromHexError;
 use std::alloc::Global;
 use std::str;
+
+/// How many fields a record has.
+pub(crate) fn wanted_fields(columns: u32, blobs: bool) -> u32
+    requires few { columns ≤ 8 }
+    ensures { result ≡ lines.wanted_fields columns blobs }
+{
+    columns + if blobs { 2 } else { 1 }
+}
 
 /// The number that a field is. It has no sign, and `parse` takes a plus.
 pub(crate) fn number(field: &[u8]) -> Option<u64>

@@ -7,6 +7,7 @@ ghost use Rattle.fl_csv.specs.Views.{AreFields};
 
 use crate::CsvRefusal;
 use crate::bare::{MOST_FIELDS, bare_fields, is_bare};
+use crate::field::wanted_fields;
 use crate::quotes::is_open;
 use crate::row::{only, row_fields};
 use arrayvec::ArrayVec;
@@ -37,8 +38,7 @@ fn are_as_many(fields: &[&[u8]], columns: u32, blobs: bool) -> bool
     ensures yes { OnTrue result (length fields.now ≡ wanted_fields columns blobs) }
     ensures no { OnFalse result (length fields.now ≡ wanted_fields columns blobs → ⊥) }
 {
-    let wanted = columns + if blobs { 2 } else { 1 };
-    fields.len() == wanted as usize
+    fields.len() == wanted_fields(columns, blobs) as usize
 }
 
 /// Whether the fields are the names.

@@ -4,7 +4,7 @@ ghost use Rattle.fl_csv.specs.Lines.{fields_put, is_bare, lack_blob, lacks_blob,
 ghost use Rattle.fl_csv.specs.Views.{AreFields, Meant};
 
 use crate::bare::{MOST_FIELDS, bare_fields, is_bare};
-use crate::field::{blob, is_left_out, number, signed};
+use crate::field::{blob, is_left_out, number, signed, wanted_fields};
 use crate::quotes::is_open;
 use crate::row::{only, row_fields};
 use crate::{CsvPut, CsvRefusal, GoneBlobs};
@@ -89,7 +89,7 @@ fn counted(
     ensures gone { (all : List (List ℕ)) → AreFields fields.entry all → IfOk result (λ put. put.gone ≡ lacks_in gone columns blobs (Some all)) }
     ensures memory { blobs ≡ false → IfErr result (λ refusal. refusal ≢ CsvRefusal.NoMemory) }
 {
-    let wanted = columns + if blobs { 2 } else { 1 };
+    let wanted = wanted_fields(columns, blobs);
     match fields {
         Some(fields) if fields.len() == wanted as usize => {
             put(alloc, fields.as_slice(), columns, blobs, gone)

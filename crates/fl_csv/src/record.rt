@@ -6,7 +6,7 @@ use fl_base::SinkFailed;
 use std::marker::Model;
 
 /// What a record's line tells of its blob.
-#[derive(Clone, Copy, Debug, PartialEq, Eq)]
+#[derive(Clone, Copy)]
 pub enum CsvBlob<'a> {
     /// The records have no blobs, so that there is no field for one.
     Absent,

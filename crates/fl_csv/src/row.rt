@@ -1,10 +1,9 @@
 // Lines with quotes, and whatever else the crate csv reads.
-ghost use Rattle.std.specs.Prelude.{◌≡◌, ◌⊎◌, MatchResult, Some, None, [], get_or};
-ghost use Rattle.csv.specs.Reading.{Ready, default_config, reader_config, reader_state, reader_trim, source_of, strip_bom};
+ghost use Rattle.std.specs.Prelude.{◌≡◌, ◌⊎◌, IfSome, MatchResult, List, ℕ, Some, None, [], get_or};
+ghost use Rattle.csv.specs.Reading.{strip_bom};
 ghost use Rattle.csv.specs.Records.{fields_of};
-ghost use Rattle.csv.specs.declared.parser.State.TheVariants as st;
-ghost use Rattle.csv.specs.declared.reader.Trim.TheVariants as trim;
 ghost use Rattle.fl_csv.specs.Lines.{records_of, only_record};
+ghost use Rattle.fl_csv.specs.Reads.{Fresh, IsOnly, Took};
 ghost use Rattle.fl_csv.specs.Views.{AreFields};
 
 use crate::CsvRefusal;
@@ -15,11 +14,7 @@ use std::alloc::Global;
 
 /// A reader of the records of a line, of any number of fields.
 fn reader(alloc: Global, line: &[u8]) -> Reader<&[u8]>
-    ensures config { reader_config result ≡ default_config }
-    ensures whole { reader_trim result ≡ trim.None }
-    ensures ready { Ready result }
-    ensures state { reader_state result ≡ st.StartRecord }
-    ensures source { source_of (λ s. Some s.now) result ≡ Some (strip_bom line.now) }
+    ensures { Fresh result (strip_bom line.now) }
 {
     ReaderBuilder::new()
         .has_headers(false)
@@ -27,24 +22,47 @@ fn reader(alloc: Global, line: &[u8]) -> Reader<&[u8]>
         .from_reader(alloc, line)
 }
 
-/// The only record of a line. Over a slice a read fails only where memory runs out, though no contract of the reader says so.
+/// Reads the next record, and answers whether there is one; none where memory runs out. Over a slice a read fails nowhere else,
+/// though no contract of the reader says so.
+fn read(reader: &mut Reader<&[u8]>, row: &mut ByteRecord) -> Option<bool>
+    ensures { IfSome result (λ found. Took reader.old reader.new found (fields_of row.new)) }
+{
+    match reader.read_byte_record(row) {
+        Ok(found) => Some(found),
+        Err(_) => None,
+    }
+}
+
+/// Whether there is one record, which `row` is then, and no next one.
+fn is_one(reader: &mut Reader<&[u8]>, row: &mut ByteRecord, next: &mut ByteRecord) -> Option<bool>
+    ensures { (text : List ℕ) → Fresh reader.old text → IfSome result (λ one. IsOnly one (fields_of row.new) text) }
+{
+    if !read(reader, row)? {
+        return Some(false);
+    }
+    Some(!read(reader, next)?)
+}
+
+/// Whether a line is one record, which `row` is then.
+fn is_only(alloc: Global, line: &[u8], row: &mut ByteRecord) -> Option<bool>
+    ensures { IfSome result (λ one. IsOnly one (fields_of row.new) (strip_bom line.now)) }
+{
+    let mut reader = reader(alloc, line);
+    let mut next = ByteRecord::new(alloc);
+    is_one(&mut reader, row, &mut next)
+}
+
+/// The only record of a line.
 pub(crate) fn only(alloc: Global, line: &[u8]) -> Result<ByteRecord, CsvRefusal>
     ensures { MatchResult result
         (λ row. only_record (records_of line.now) ≡ Some (fields_of row))
         (λ refusal. (refusal ≡ CsvRefusal.NoMemory) ⊎ ((refusal ≡ CsvRefusal.Csv) × (only_record (records_of line.now) ≡ None))) }
 {
-    let mut reader = reader(alloc, line);
     let mut row = ByteRecord::new(alloc);
-    match reader.read_byte_record(&mut row) {
-        Ok(true) => {}
-        Ok(false) => return Err(CsvRefusal::Csv),
-        Err(_) => return Err(CsvRefusal::NoMemory),
-    }
-    let mut next = ByteRecord::new(alloc);
-    match reader.read_byte_record(&mut next) {
-        Ok(true) => Err(CsvRefusal::Csv),
-        Ok(false) => Ok(row),
-        Err(_) => Err(CsvRefusal::NoMemory),
+    match is_only(alloc, line, &mut row) {
+        Some(true) => Ok(row),
+        Some(false) => Err(CsvRefusal::Csv),
+        None => Err(CsvRefusal::NoMemory),
     }
 }
 
