@@ -3,3 +3,4 @@ pub mod RowsFrom
 pub mod WriterSteps
 pub mod DataPages
 pub mod ReadsInTurn
+pub mod Views

@@ -11,7 +11,7 @@ use Rattle.byteorder.specs.Endian.{little_number, low_bytes}
 use Rattle.byteorder.specs.Numbers.{little_from-cons, little_from-lt, little_number-reads_back, length-bytes_low_first}
 use Rattle.fl_base.specs.Bytes.{splice}
 use Rattle.fl_model.specs.Record.{fits}
-use Rattle.fl_model.specs.Row.{le, value_bytes, number_of}
+use Rattle.fl_model.specs.Row.{le, value_bytes, value_in, number_of}
 use Rattle.fl_schema.specs.Types.{column_of}
 use Rattle.fl_schema.specs.declared.column.ColumnType.{ColumnType}
 use Rattle.fl_schema.specs.declared.column.ColumnType.TheVariants.{U8, I8, U16, I16, U32, I32, I64}
@@ -80,3 +80,10 @@ four_bytes_most w at n bytes few each is =
       | inr past ↦ rw (get_or_past (slice_range bytes at (at + w)) k 0 (omega (arith, length-take (at + w - at) (drop at bytes)))) (omega arith)
     ] in
     omega (arith, little_from-lt 0 w (slice_range bytes at (at + w)) part, pow-le-pow_right {n = 256} (lit≤ tt) few)
+
+-- a value that was read as that of the type that this one is
+pub value_as : (of known : ColumnType) (at : ℕ) (bytes : List ℕ) (value : ℤ) → of ≡ known → FitsSigned w64 value
+    → value ≡ value_in (column_of known) (slice_range bytes at (at + (column_of known).width))
+    → cast_signed w64 (cast_unsigned w64 value) ≡ value_in (column_of of) (slice_range bytes at (at + (column_of of).width))
+value_as of known at bytes value same word is =
+    to_z-of_z w64 value word ∙ is ∙ ap (λ (t : ColumnType). value_in (column_of t) (slice_range bytes at (at + (column_of t).width))) (sym same)

@@ -1,5 +1,5 @@
 -- The columns of a schema, one after another.
-use Rattle.std.proofs.Common.{◌≡◌, ℕ, zero, suc, ◌+◌, ◌-◌, ◌<◌, ◌≤◌, Bool, true, false, inl, inr, if◌then◌else◌, ℤ, pos, Option, Some, None, slice_get, List, [], ◌∷◌, ◌++◌, length, take, drop, slice_range, get_or, refl, sym, ap, ◌∙◌, arith}
+use Rattle.std.proofs.Common.{◌≡◌, ℕ, zero, suc, ◌+◌, ◌-◌, ◌*◌, ◌^◌, ◌<◌, ◌≤◌, Bool, true, false, inl, inr, if◌then◌else◌, ℤ, pos, Option, Some, None, slice_get, List, [], ◌∷◌, ◌++◌, length, take, drop, slice_range, get_or, refl, sym, ap, ◌∙◌, arith}
 use Rattle.std.proofs.lemmas.Bool.{cases_lt}
 use Rattle.std.proofs.lemmas.List.{drop-drop, take_at, take-append-le, get_or_append_left, get_or_push, length_push}
 use Rattle.std.proofs.lemmas.List.Sums.{sum_by-cons}
@@ -9,7 +9,8 @@ use Rattle.std.specs.Prelude.{FitsSigned}
 use Rattle.std.specs.Int.{w64, cast_signed, cast_unsigned}
 use Rattle.std.proofs.lemmas.Int.{to_z-of_z}
 use Rattle.fl_schema.specs.Types.{column_of}
-use Rattle.fl_schema.specs.Form.{key_width, columns_in, ArePlaced}
+use Rattle.fl_schema.specs.Form.{key_width, types_in, columns_in, ArePlaced}
+use prog.Memory.{up}
 use Rattle.fl_schema.specs.declared.schema.KeyWidth.{KeyWidth}
 use Rattle.fl_schema.specs.declared.schema.PlacedColumn.{PlacedColumn}
 
@@ -20,6 +21,28 @@ columns_len-cons c cs = sum_by-cons (λ (c : Column). c.width) c cs
 pub length-columns_in : (cs : List PlacedColumn) → length (columns_in cs) ≡ length cs
 length-columns_in [] = refl
 length-columns_in (c ∷ cs) = ap suc (length-columns_in cs)
+
+pub length-types_in : (cs : List PlacedColumn) → length (types_in cs) ≡ length cs
+length-types_in [] = refl
+length-types_in (c ∷ cs) = ap suc (length-types_in cs)
+
+-- the type of column i
+pub type-at : (cs : List PlacedColumn) (i : ℕ) (d : PlacedColumn) → i < length cs → slice_get (types_in cs) i ≡ Some (get_or cs i d).of
+type-at [] i d lt = absurd (omega arith)
+type-at (c ∷ cs) zero d lt = refl
+type-at (c ∷ cs) (suc i) d lt = type-at cs i d (omega arith)
+
+-- the room that the columns take, each part where it is aligned
+pub columns-fit : (n : ℕ) → n ≤ 65535 → up 8 (up 1 (up 8 (0 + up 4 (0 + n * 8)) + 8) + 0) < 2 ^ 63
+columns-fit n few =
+    let each : up 4 (0 + n * 8) ≤ 524284 = omega (arith, few) in
+    whole (behind each)
+  where
+    behind : {e : ℕ} → e ≤ 524284 → up 8 (0 + e) + 8 ≤ 524300
+    behind le = omega (arith, le)
+
+    whole : {e : ℕ} → e ≤ 524300 → up 8 (up 1 e + 0) < 2 ^ 63
+    whole le = omega (arith, le)
 
 -- the bytes of the columns before column i and of column i
 pub columns_len-more : (cs : List PlacedColumn) (i : ℕ) (d : PlacedColumn) → i < length cs
