@@ -1,5 +1,5 @@
 -- Small facts on counts and sizes, over plain variables.
-use Rattle.std.proofs.Common.{◌≡◌, ◌⊎◌, inl, ℕ, ◌+◌, ◌-◌, ◌^◌, ◌<◌, ◌≤◌, ◌==◌, Bool, true, false, if◌then◌else◌, min, IsTrue, Result, Ok, Err, OnOk, refl, ◌∙◌, ap, arith}
+use Rattle.std.proofs.Common.{◌≡◌, ◌⊎◌, inl, ℕ, ◌+◌, ◌-◌, ◌/◌, ◌^◌, ◌<◌, ◌≤◌, ◌==◌, Bool, true, false, if◌then◌else◌, min, IsTrue, Result, Ok, Err, OnOk, refl, ◌∙◌, ap, arith, Fits, w16, div-le_self}
 use Rattle.std.proofs.lemmas.Bool.{eqb-true}
 use Rattle.fl_flash.specs.Buffer.{BufferState}
 use Rattle.fl_flash.specs.Flash.{FlashState, ReadsPage, page_at}
@@ -10,6 +10,16 @@ use Rattle.fl_ring.proofs.ReadsInTurn.{read_once}
 -- none waits
 pub none-left : (first waiting : ℕ) → first + waiting < 2 ^ 32 → first + 0 < 2 ^ 32
 none-left first waiting left = omega (arith, left)
+
+pub none-after : (n : ℕ) → n < 2 ^ 32 → n + 0 < 2 ^ 32
+none-after n left = omega (arith, left)
+
+-- as many as a page has room for
+pub few-fit : (waiting size len : ℕ) → waiting ≤ (size - 24) / len → size ≤ 4096 → Fits w16 waiting
+few-fit waiting size len few small = let most = div-le_self (size - 24) len in omega (arith, few, most, small)
+
+pub body-large : (len size : ℕ) → len + 8 ≡ size → 64 ≤ size → 16 ≤ len
+body-large len size is least = omega (arith, is, least)
 
 -- the lesser of a page's entries and of the numbers that are left
 pub least-few : (capacity rest least most : ℕ) → least ≡ min capacity rest → capacity ≡ most → least ≤ most

@@ -19,6 +19,9 @@ use Rattle.fl_index.proofs.Memories.{planned-same}
 use Rattle.fl_index.proofs.MountCalls.{same-shape, refuses-ring, refuses-end, finds-end}
 use Rattle.fl_index.proofs.MountEnded.{mounting-of, limit-is, ring-fails, ring-ends, ring-mounts, no-bad-end, finds-well, end-is, bad-end}
 use Rattle.fl_index.proofs.SealEnds.{planned-ring, lies-size}
+use Rattle.fl_flash.specs.declared.flash.FlashFault.TheVariants.{PowerLost}
+use Rattle.fl_ring.specs.declared.fault.RingFault.TheVariants.{Flash}
+use Rattle.fl_ring.proofs.Mounts.{err_as}
 use Rattle.fl_index.proofs.index.BitmapIndex.find.Goals as goal
 
 pub returns-in_err-ring-clause-ends : goal.returns-in_err-ring-clause-ends
@@ -307,3 +310,8 @@ invariant_of-self g c =
       lies = λ r has.
           ap (λ (x : Ring). shape_of x) (sym (same_Some c.in_ok-ring.ring r has)) ∙ (c.in_ok-ring.ensures.mounts.shape ∙ ap (λ (x : Geometry). shape_at t.place x) (c.requires.lies.geometry ∙ sym c.forget.ensures.same.geometry));
     }
+
+pub returns-in_err-ring-clause-off : goal.returns-in_err-ring-clause-off
+returns-in_err-ring-clause-off g c =
+    let p = err_from_is_err_and c.from_residual.result c.from_residual.ensures.1 in
+    rw (p.1, p.2) (λ down. let x = c.in_err-ring.ensures.mounts.off down in (err_as c.in_err-ring.field-0.0 (Flash PowerLost) x.0, x.1))

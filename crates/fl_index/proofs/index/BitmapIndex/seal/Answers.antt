@@ -1,5 +1,5 @@
 use Rattle.fl_ring.specs.declared.ring.Ring.{Ring}
-use Rattle.std.proofs.Common.{None, is_some, ◌≡◌, Option, ◌+◌, ◌*◌, ◌%◌, ◌^◌, ℕ, ◌<◌, ◌≤◌, ◌==◌, cond, List, ◌++◌, Some, Result, Ok, Err, length, take, drop, get_or, set, unwrap_or, arith, refl, sym, ◌∙◌, ap, subst}
+use Rattle.std.proofs.Common.{None, is_some, ◌≡◌, Option, ◌+◌, ◌*◌, ◌%◌, ◌^◌, ℕ, ◌<◌, ◌≤◌, ◌==◌, cond, List, ◌++◌, Some, Result, Ok, Err, length, take, drop, get_or, set, unwrap_or, zero-le, arith, refl, sym, ◌∙◌, ap, subst}
 use Rattle.std.specs.Prelude.{option_map}
 use Rattle.std.proofs.lemmas.Result.{err_from_is_err_and}
 use Rattle.std.proofs.lemmas.Bool.{true≢false}
@@ -22,6 +22,9 @@ use Rattle.fl_index.proofs.HeaderPages.{remembered-behind}
 use Rattle.fl_index.proofs.State.{shape_in, HaveSize}
 use Rattle.fl_index.proofs.SealEnds.{planned-ring, lies-size, seal-ready, seal-breaks, seal-finishes}
 use Rattle.fl_index.proofs.SealAnswers.{sealing-of, some-room, number-of, seal-on}
+use Rattle.std.proofs.Math.Nat.{mod-lt}
+use Rattle.fl_ring.proofs.NumbersAfterSeal.{fits_below}
+use Rattle.fl_index.proofs.Limits.{none-after, few-fit, body-large}
 use Rattle.fl_index.proofs.index.BitmapIndex.seal.Goals as goal
 
 pub nonzero_rem-at : goal.nonzero_rem-at
@@ -41,7 +44,7 @@ returns-in_err-seal-clause-ends g c = λ first plan table rose device watched st
     let sizes_now : HaveSize first plan (page_at new) = lies-size t new first plan stands.in_ring.planned (goes.geometry ∙ lies.geometry) (omega (arith, goes.blocks, lies.within)) (g.met.F.Flash.reaches c.seal.new.flash) in
     let headed : take t.body.len (c.write_header.new.body ++ drop (length c.write_header.new.body) t.body.items) ≡ splice t.body.items 0 (header_bytes c.next_number-number.result t.first t.waiting) =
     written-back t.body.len t.body.items c.write_header.new.body _ (c.write_header.ensures ∙ ap (λ (l : List ℕ). splice l 0 (header_bytes c.next_number-number.result t.first t.waiting)) c.deref_mut.ensures.value)
-    (headed-length c.next_number-number.result t.first t.waiting t.body.items (omega (arith, t.page, t.served.page_least))) t.body.ok.0 in
+    (headed-length c.next_number-number.result t.first t.waiting t.body.items (body-large _ _ t.page t.served.page_least)) t.body.ok.0 in
     let is = sealing-of t old first plan table ring c.next_number-number.result stands sizes has c.next_number-number.ensures c.requires.left c.requires.full in
     let body = splice t.body.items 0 (header_bytes c.next_number-number.result t.first t.waiting) in
     let seals : Seals is.s body rose device ring (Err c.in_err-seal.field-0.0) c.seal.new.self new =
@@ -66,7 +69,7 @@ returns-clause-ends g c = λ first plan table rose device watched stands.
     let sizes_now : HaveSize first plan (page_at new) = lies-size t new first plan stands.in_ring.planned (goes.geometry ∙ lies.geometry) (omega (arith, goes.blocks, lies.within)) (g.met.F.Flash.reaches c.seal.new.flash) in
     let headed : take t.body.len (c.write_header.new.body ++ drop (length c.write_header.new.body) t.body.items) ≡ splice t.body.items 0 (header_bytes c.next_number-number.result t.first t.waiting) =
     written-back t.body.len t.body.items c.write_header.new.body _ (c.write_header.ensures ∙ ap (λ (l : List ℕ). splice l 0 (header_bytes c.next_number-number.result t.first t.waiting)) c.deref_mut.ensures.value)
-    (headed-length c.next_number-number.result t.first t.waiting t.body.items (omega (arith, t.page, t.served.page_least))) t.body.ok.0 in
+    (headed-length c.next_number-number.result t.first t.waiting t.body.items (body-large _ _ t.page t.served.page_least)) t.body.ok.0 in
     let is = sealing-of t old first plan table ring c.next_number-number.result stands sizes has c.next_number-number.ensures c.requires.left c.requires.full in
     let body = splice t.body.items 0 (header_bytes c.next_number-number.result t.first t.waiting) in
     let u = c.in_ok-seal.field-0 in
@@ -106,15 +109,15 @@ invariant_of-self g c =
     let t = c.args.self.now in
     let back : take t.body.len (c.write_header.new.body ++ drop (length c.write_header.new.body) t.body.items) ≡ splice t.body.items 0 (header_bytes c.next_number-number.result t.first t.waiting) =
     written-back t.body.len t.body.items c.write_header.new.body _ (c.write_header.ensures ∙ ap (λ (l : List ℕ). splice l 0 (header_bytes c.next_number-number.result t.first t.waiting)) c.deref_mut.ensures.value)
-    (headed-length c.next_number-number.result t.first t.waiting t.body.items (omega (arith, t.page, t.served.page_least))) t.body.ok.0 in
+    (headed-length c.next_number-number.result t.first t.waiting t.body.items (body-large _ _ t.page t.served.page_least)) t.body.ok.0 in
     record {
       served = t.served;
       some_blocks = t.some_blocks;
       few_blocks = t.few_blocks;
       some_bits = t.some_bits;
       remembered = t.remembered;
-      page = ap (λ (l : List ℕ). length l + 8) back ∙ (ap (λ n. n + 8) (headed-length c.next_number-number.result t.first t.waiting t.body.items (omega (arith, t.page, t.served.page_least))) ∙ t.page);
-      blank_rest = rest-headed c.next_number-number.result t.first t.waiting (per_page t * len_in t) t.body.items _ (omega (arith, t.page, t.served.page_least)) back t.blank_rest;
+      page = ap (λ (l : List ℕ). length l + 8) back ∙ (ap (λ n. n + 8) (headed-length c.next_number-number.result t.first t.waiting t.body.items (body-large _ _ t.page t.served.page_least)) ∙ t.page);
+      blank_rest = rest-headed c.next_number-number.result t.first t.waiting (per_page t * len_in t) t.body.items _ (body-large _ _ t.page t.served.page_least) back t.blank_rest;
       few = t.few;
       left = t.left;
       lies = λ r has. absurd (none-some r (sym c.take.ensures.after ∙ has));
@@ -125,16 +128,16 @@ invariant_of-self-2-clause-blank_rest g c =
     let t = c.args.self.now in
     let back : take t.body.len (c.write_header.new.body ++ drop (length c.write_header.new.body) t.body.items) ≡ splice t.body.items 0 (header_bytes c.next_number-number.result t.first t.waiting) =
     written-back t.body.len t.body.items c.write_header.new.body _ (c.write_header.ensures ∙ ap (λ (l : List ℕ). splice l 0 (header_bytes c.next_number-number.result t.first t.waiting)) c.deref_mut.ensures.value)
-    (headed-length c.next_number-number.result t.first t.waiting t.body.items (omega (arith, t.page, t.served.page_least))) t.body.ok.0 in
-    rest-headed c.next_number-number.result t.first t.waiting (per_page t * len_in t) t.body.items _ (omega (arith, t.page, t.served.page_least)) back t.blank_rest
+    (headed-length c.next_number-number.result t.first t.waiting t.body.items (body-large _ _ t.page t.served.page_least)) t.body.ok.0 in
+    rest-headed c.next_number-number.result t.first t.waiting (per_page t * len_in t) t.body.items _ (body-large _ _ t.page t.served.page_least) back t.blank_rest
 
 pub invariant_of-self-2-clause-page : goal.invariant_of-self-2-clause-page
 invariant_of-self-2-clause-page g c =
     let t = c.args.self.now in
     let back : take t.body.len (c.write_header.new.body ++ drop (length c.write_header.new.body) t.body.items) ≡ splice t.body.items 0 (header_bytes c.next_number-number.result t.first t.waiting) =
     written-back t.body.len t.body.items c.write_header.new.body _ (c.write_header.ensures ∙ ap (λ (l : List ℕ). splice l 0 (header_bytes c.next_number-number.result t.first t.waiting)) c.deref_mut.ensures.value)
-    (headed-length c.next_number-number.result t.first t.waiting t.body.items (omega (arith, t.page, t.served.page_least))) t.body.ok.0 in
-    ap (λ (l : List ℕ). length l + 8) back ∙ (ap (λ n. n + 8) (headed-length c.next_number-number.result t.first t.waiting t.body.items (omega (arith, t.page, t.served.page_least))) ∙ t.page)
+    (headed-length c.next_number-number.result t.first t.waiting t.body.items (body-large _ _ t.page t.served.page_least)) t.body.ok.0 in
+    ap (λ (l : List ℕ). length l + 8) back ∙ (ap (λ n. n + 8) (headed-length c.next_number-number.result t.first t.waiting t.body.items (body-large _ _ t.page t.served.page_least)) ∙ t.page)
 
 pub returns-clause-firsts : goal.returns-clause-firsts
 returns-clause-firsts g c = λ number low high fits.
@@ -298,3 +301,31 @@ unreachable-requires g c = absurd (true≢false (sym c.requires.running ∙ ap (
 
 pub unreachable-unreachable : goal.unreachable-unreachable
 unreachable-unreachable g c = c.unreachable.type_inv
+
+pub invariant_of-self-2-clause-few : goal.invariant_of-self-2-clause-few
+invariant_of-self-2-clause-few g c = zero-le
+
+pub invariant_of-self-2-clause-left : goal.invariant_of-self-2-clause-left
+invariant_of-self-2-clause-left g c = none-after _ c.args.self.now.left
+
+pub overflow_add-self : goal.overflow_add-self
+overflow_add-self g c = fits_below _ c.args.self.now.left
+
+pub overflow_cast-self : goal.overflow_cast-self
+overflow_cast-self g c = few-fit _ _ _ c.args.self.now.few c.args.self.now.served.page_greatest
+
+pub index_mut-requires : goal.index_mut-requires
+index_mut-requires g c = let t = c.args.self.now in subst (λ (n : ℕ). c.next_number-number.result % c.len.result < n) c.len.ensures (mod-lt c.next_number-number.result (some-room t c.len.result c.len.ensures))
+
+pub write_header-requires : goal.write_header-requires
+write_header-requires g c = let t = c.args.self.now in subst (λ (n : ℕ). 16 ≤ n) (sym (ap (λ (l : List ℕ). length l) c.deref_mut.ensures.value)) (body-large _ _ t.page t.served.page_least)
+
+pub seal-requires-clause-body : goal.seal-requires-clause-body
+seal-requires-clause-body g c =
+    let t = c.args.self.now in
+    let ring = c.in-Some.ring in
+    let has : t.ring ≡ Some ring = sym c.take.ensures.value ∙ c.in-Some.is in
+    let size = headed-length c.next_number-number.result t.first t.waiting t.body.items (body-large _ _ t.page t.served.page_least) in
+    let headed : take t.body.len (c.write_header.new.body ++ drop (length c.write_header.new.body) t.body.items) ≡ splice t.body.items 0 (header_bytes c.next_number-number.result t.first t.waiting) =
+    written-back t.body.len t.body.items c.write_header.new.body _ (c.write_header.ensures ∙ ap (λ (l : List ℕ). splice l 0 (header_bytes c.next_number-number.result t.first t.waiting)) c.deref_mut.ensures.value) size t.body.ok.0 in
+    ap (λ (l : List ℕ). length l + 8) (c.deref.ensures.value ∙ headed) ∙ (ap (λ (k : ℕ). k + 8) size ∙ (t.page ∙ sym (ap (λ (r : Shape). r.size) (t.lies ring has))))
