@@ -1,5 +1,5 @@
 -- What a page is tested for, and a search among its rows.
-use Rattle.std.proofs.Common.{◌≡◌, ℕ, ◌+◌, ◌-◌, ◌*◌, ◌/◌, ◌^◌, ◌<◌, ◌≤◌, Bool, Fits, w64, List, length, take, drop, slice_range, sym, ap, ◌∙◌, subst, arith, length-drop, mul-le-mul, mul-le-mul_right}
+use Rattle.std.proofs.Common.{◌≡◌, ℕ, ◌+◌, ◌-◌, ◌*◌, ◌/◌, ◌<◌, ◌≤◌, Bool, List, length, take, drop, slice_range, sym, ◌∙◌, subst, arith, length-drop, mul-le-mul, mul-le-mul_right}
 use Rattle.std.proofs.lemmas.List.{length-take-le}
 use Rattle.std.proofs.lemmas.Nat.{le-div}
 use Rattle.fl_model.specs.Record.{layout_len}

@@ -36,6 +36,18 @@ place_small head first blocks sealed pages lt below reach =
 pub some_blocks : (blocks : ℕ) → 3 ≤ blocks → 0 < blocks
 some_blocks blocks some = omega (arith, some)
 
+pub one_page : (pages : ℕ) → 2 ≤ pages → 1 ≤ pages
+one_page pages two = omega (arith, two)
+
+pub last_page : (pages : ℕ) → 2 ≤ pages → pages - 1 < pages
+last_page pages two = omega (arith, two)
+
+pub up_one : (n m : ℕ) → n ≤ m → n ≤ m + 1
+up_one n m le = omega (arith, le)
+
+pub never_none : (n : ℕ) → n + 1 ≡ 0 → ⊥
+never_none n e = omega (arith, e)
+
 pub head_fits : (head first blocks sealed pages : ℕ) → head < blocks → sealed < pages → (first + blocks) * pages < 2 ^ 32 → Fits w32 (head * pages)
 head_fits head first blocks sealed pages lt below reach = omega (arith, place_small head first blocks sealed pages lt below reach)
 

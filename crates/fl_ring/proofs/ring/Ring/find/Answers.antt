@@ -16,7 +16,7 @@ use Rattle.fl_ring.specs.Ring.{Shape, OnRing, IsShape, repaired}
 use Rattle.fl_ring.proofs.Besides.{beside_reads, beside_more, beside_up}
 use Rattle.fl_frame.proofs.ReadsInTurn.{caused_later}
 use Rattle.fl_ring.proofs.Exists.{place_exists, lies_still, reach_below}
-use Rattle.fl_ring.proofs.Mounts.{shape_served, still_on, found_numbers, search_failed, search_cause, mount_done, refused_by, has_numbers, err_as}
+use Rattle.fl_ring.proofs.Mounts.{shape_served, still_on, found_numbers, search_failed, search_cause, mount_done, refused_by, has_numbers, err_as, not_failed}
 use Rattle.fl_ring.proofs.NewestPages.{newest_kept}
 use Rattle.fl_ring.proofs.RepairSteps.{watched_still}
 use Rattle.fl_ring.proofs.ring.Ring.find.Goals as goal
@@ -92,7 +92,7 @@ returns-in_err-repair-clause-mounts g c =
           subst (λ (y : Geometry). Beside (shape_at place y) (search_reads (shape_at place y) + y.block) 1 1 f new) c.geometry-geometry.ensures
           (beside_more before (search_reads before) 0 0 geo.block 1 1 f mid new (beside_reads before (search_reads before) f mid reads) c.repair.ensures.beside);
       cause = caused_later f mid new e n reads c.in_err-repair.ensures.cause;
-      off = λ down. absurd (let x = (c.in_ok-numbers.ensures.off down).0 in cc);
+      off = λ down. absurd (not_failed _ _ (c.in_ok-numbers.ensures.off down).0);
       power = tt;
     })
 
@@ -141,7 +141,7 @@ returns-clause-mounts g c =
           subst (λ (y : Geometry). Beside (shape_at place y) (search_reads (shape_at place y) + y.block) 1 1 f new) c.geometry-geometry.ensures
           (beside_more before (search_reads before) 0 0 geo.block 1 1 f mid new (beside_reads before (search_reads before) f mid reads) c.repair.ensures.beside);
       cause = tt;
-      off = λ down. absurd (let x = (c.in_ok-numbers.ensures.off down).0 in cc);
+      off = λ down. absurd (not_failed _ _ (c.in_ok-numbers.ensures.off down).0);
       power = c.in_ok-repair.ensures.power c.in_ok-numbers.ensures.power;
     }
 
