@@ -133,8 +133,7 @@ fn access_of(job: Option<ToolJob>) -> Access {
     }
 }
 
-/// Does what the words say over the image that they name, and hands out what was written. Other words leave every file alone. A shell
-/// over a file that can't be used ends before somebody types the configuration of an image.
+/// Does what the words say, and hands out what was written. Words that name no image leave every file alone.
 fn ending_of<R, W>(rt: &R, words: &[String], sync: bool, prompts: Option<W>) -> Ending
 where
     R: Alloc<A = Global> + Files<File = File> + Input + Print,
@@ -146,39 +145,62 @@ where
     if let Some(job) = ship_of(words) {
         return ship_told(rt, job, words[1].as_str(), words[2].as_str());
     }
-    let job = tool_of(words);
-    let named = match job {
+    match named_in(words) {
+        Some(image) => over_image(rt, words, sync, image, prompts),
+        None => Ending::of(usage_of(rt, words)),
+    }
+}
+
+/// The image that the words name.
+fn named_in(words: &[String]) -> Option<&str> {
+    match tool_of(words) {
         Some(_) => Some(words[1].as_str()),
         None => image_of(words).or(shell_of(words)),
-    };
-    let Some(image) = named else {
-        return Ending::of(usage_of(rt, words));
-    };
+    }
+}
+
+/// Does what the words say over the image, and hands out what was written.
+fn over_image<R, W>(rt: &R, words: &[String], sync: bool, image: &str, prompts: Option<W>) -> Ending
+where
+    R: Alloc<A = Global> + Files<File = File> + Input + Print,
+    W: Write + Drop,
+{
     let was_missing = is_missing(rt, image);
     let Ok(replies) = ReplyBuffer::new(rt.alloc(), io::writer(rt)) else {
         return Ending::of(Exit::Run(Status::NoMemory));
     };
-    let Ok(media) = FileMedia::open_image(rt, image, access_of(job)) else {
+    let Ok(media) = FileMedia::open_image(rt, image, access_of(tool_of(words))) else {
         return Ending::of(Exit::InUse);
     };
+    let made = if was_missing { Some(image) } else { None };
+    over_file(rt, words, sync, made, prompts, media, replies)
+}
+
+/// Does what the words say over the file of the image. A shell over a file that can't be used ends before somebody types the configuration
+/// of an image.
+fn over_file<R, W, O>(
+    rt: &R,
+    words: &[String],
+    sync: bool,
+    made: Option<&str>,
+    prompts: Option<W>,
+    media: FileMedia<File>,
+    replies: ReplyBuffer<O>,
+) -> Ending
+where
+    R: Alloc<A = Global> + Files<File = File> + Input,
+    W: Write + Drop,
+    O: Write + Drop,
+{
     let is_shell = shell_of(words).is_some();
     if is_shell && !media.is_usable() {
         return Ending::of(Exit::Shell(ShellEnd::of(ShellStatus::MediaMake)));
     }
-    let made = if was_missing { Some(image) } else { None };
     let reader = Prompted::new(rt.reader(), if is_shell { prompts } else { None });
     if sync {
-        done_over(
-            rt,
-            words,
-            &job,
-            made,
-            reader,
-            SyncedMedia::of(media),
-            replies,
-        )
+        done_over(rt, words, made, reader, SyncedMedia::of(media), replies)
     } else {
-        done_over(rt, words, &job, made, reader, media, replies)
+        done_over(rt, words, made, reader, media, replies)
     }
 }
 
@@ -187,22 +209,15 @@ where
 fn done_over<R: Alloc<A = Global> + Files, I: Read + Drop, M: Media + Drop, W: Write + Drop>(
     rt: &R,
     words: &[String],
-    job: &Option<ToolJob>,
     made: Option<&str>,
     reader: I,
     mut media: M,
     replies: ReplyBuffer<W>,
 ) -> Ending {
     let replies = RefCell::new(replies);
-    let mut input = StandardInput::new(reader, &replies);
+    let input = StandardInput::new(reader, &replies);
     let mut out = StandardOutput::new(&replies);
-    let ending = match job {
-        Some(job) => Ending::of(tool(rt.alloc(), *job, &mut media, &mut input, &mut out)),
-        None if shell_of(words).is_some() => {
-            shell_told(rt.alloc(), &mut media, &mut input, &mut out)
-        }
-        None => run_told(rt.alloc(), words, &mut media, input, &mut out),
-    };
+    let ending = told_over(rt.alloc(), words, &mut media, input, &mut out);
     if let Some(image) = made {
         if media.len() == 0 {
             remove_empty(rt, image);
@@ -211,6 +226,21 @@ fn done_over<R: Alloc<A = Global> + Files, I: Read + Drop, M: Media + Drop, W: W
     Ending {
         exit: ending.exit.behind(out.hand_out()),
         ..ending
+    }
+}
+
+/// Does the job, or the shell or the run where there is none, over a medium and an input, without handing out what was written.
+fn told_over<M: Media, S: Source + Drop, K: Sink>(
+    alloc: Global,
+    words: &[String],
+    media: &mut M,
+    mut input: S,
+    out: &mut K,
+) -> Ending {
+    match tool_of(words) {
+        Some(job) => Ending::of(tool(alloc, job, media, &mut input, out)),
+        None if shell_of(words).is_some() => shell_told(alloc, media, &mut input, out),
+        None => run_told(alloc, words, media, input, out),
     }
 }
 
