@@ -1,10 +1,22 @@
 -- Rows that continue, and continue again.
-use Rattle.std.proofs.Common.{◌∙◌, ℕ, List, Option}
+use Rattle.std.proofs.Common.{refl, ◌∙◌, ℕ, List, Option}
 use Rattle.std.specs.Borrow.{GName}
 use Rattle.fl_model.specs.Record.{RowLayout}
 use Rattle.fl_frame.specs.Contents.{Contents}
 use Rattle.fl_page.specs.declared.fault.BadPage.{BadPage}
 use Rattle.fl_ops.specs.Inputs.{Continues}
+
+pub Continues-same : {Rows : Type 0} {names : Rows → List GName} {schema : Rows → RowLayout} {above : Rows → Option ℕ}
+    {ready told : Rows → Contents → Type 0} {passes : Rows → Contents → BadPage → Type 0} {held : Contents} (a : Rows)
+    → Continues names schema above ready told passes held a a
+Continues-same a = record {
+  same_names = refl;
+  same_schema = refl;
+  never_falls = λ key is. is;
+  stays_ready = λ contents is. is;
+  same_test = λ contents bad. (λ is. is, λ is. is);
+  stays_told = λ is. is;
+}
 
 pub Continues-then : {Rows : Type 0} {names : Rows → List GName} {schema : Rows → RowLayout} {above : Rows → Option ℕ}
     {ready told : Rows → Contents → Type 0} {passes : Rows → Contents → BadPage → Type 0} {held : Contents} (a b c : Rows)

@@ -1,5 +1,5 @@
 -- The pairs of lists whose keys ascend, found from their fronts.
-use Rattle.std.proofs.Common.{ℕ, ◌≡◌, ◌∙◌, ◌<◌, ◌≤◌, Bool, true, false, List, [], ◌∷◌, eqb, refl, ap, arith, Some, None, Result, Ok, Err}
+use Rattle.std.proofs.Common.{ℕ, ◌≡◌, ◌∙◌, ◌<◌, ◌≤◌, Bool, true, false, List, [], ◌∷◌, eqb, refl, ap, arith, Some, None, Result, Ok, Err, if◌then◌else◌}
 use Rattle.std.specs.Prelude.{◌==◌}
 use Rattle.std.specs.List.{find}
 use Rattle.std.proofs.lemmas.Grind.{common_steps}
@@ -10,6 +10,7 @@ use Rattle.fl_page.specs.Steps.{Steps, Ascends}
 use Rattle.fl_page.specs.declared.fault.ReadFault.{ReadFault}
 use Rattle.fl_page.specs.declared.fault.ReadFault.TheVariants.{Flash, BadPage}
 use Rattle.fl_ops.specs.Columns.{record_of, records_of}
+use Rattle.fl_ops.specs.Inputs.{StepsOver}
 use Rattle.fl_ops.specs.Pairs.{pairs_from, PairsGo}
 use Rattle.fl_ops.proofs.AscendingKeys.{Climbs, Climbs-rows}
 
@@ -90,3 +91,22 @@ pub pair-equal : (a b : Row) (left right : List Row) → a.key ≡ b.key → Asc
     → pairs_from a left b right ≡ (record_of a, record_of b) ∷ key_join (records_of left) (records_of right)
 pair-equal a b left right same ascends =
     join-equal (record_of a) (record_of b) (records_of left) (records_of right) same (Climbs-rows a.key left ascends)
+
+-- the rows failed
+pub pairs-fault : {Item : Type 0} (fault : ReadFault) (before after left : List (Record × Record)) (start : List Item) (item : Item) (rest : List Item)
+    → PairsGo (Err fault) before after left → StepsOver (Err fault) start item rest
+pairs-fault (Flash fault) before after left start item rest is = tt
+pairs-fault (BadPage bad) before after left start item rest is = is
+
+-- the same, of a step of the join, whose rest has another name
+pub steps-fault : {Item : Type 0} (fault : ReadFault) (before after start rest : List Item) (first item : Item)
+    → StepsOver (Err fault) before first after → StepsOver (Err fault) start item rest
+steps-fault (Flash fault) before after start rest first item is = tt
+steps-fault (BadPage bad) before after start rest first item is = is
+
+-- the pairs left, where the join has ended, and where it hasn't
+pub ended-none : {Item : Type 0} (ended : Bool) (pairs : List Item) → ended ≡ true → (if ended then [] else pairs) ≡ []
+ended-none ended pairs is = rw is refl
+
+pub open-pairs : {Item : Type 0} (ended : Bool) (pairs : List Item) → ended ≡ false → (if ended then [] else pairs) ≡ pairs
+open-pairs ended pairs is = rw is refl

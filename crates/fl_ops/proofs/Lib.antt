@@ -3,6 +3,7 @@ pub mod AscendingKeys
 pub mod ColumnValues
 pub mod ContinuedRows
 pub mod GroupLists
+pub mod GroupSteps
 pub mod Joins
 pub mod Room
 pub mod RowValues

@@ -1,8 +1,7 @@
-use Rattle.std.proofs.Common.{◌≡◌, ◌≤◌, ◌<◌, ◌+◌, ◌-◌, ◌^◌, ◌↔◌, ℕ, true, filter}
-use Rattle.fl_model.specs.Query.{is_above}
-use Rattle.fl_frame.specs.Contents.{Contents, contents_of, OnlyReads}
-use Rattle.fl_page.specs.declared.fault.BadPage.{BadPage}
+use Rattle.std.proofs.Common.{◌≡◌, ◌≤◌, ◌<◌, ◌+◌, ◌-◌, ◌^◌, true, filter}
+use Rattle.fl_frame.specs.Contents.{contents_of, OnlyReads}
 use Rattle.fl_ops.specs.Columns.{row_passes}
+use Rattle.fl_ops.specs.Inputs.{Continues}
 use Rattle.fl_ops.specs.Select.{comparison_of}
 use Rattle.fl_ops.proofs.Room.{room}
 use Rattle.fl_ops.proofs.select.SelectRows.step.Given as goal
@@ -14,17 +13,10 @@ invariant-loop-number g l =
     let contents = contents_of (g.F.Flash.state l.initial.flash) in
     record {
       reads_only : OnlyReads (g.F.Flash.state l.initial.flash) (g.F.Flash.state l.flash);
-      column : l.self.column ≡ l.initial.self.column;
-      op : l.self.op ≡ l.initial.self.op;
-      value : l.self.value ≡ l.initial.self.value;
-      names : R.names l.self.rows ≡ R.names l.initial.self.rows;
-      schema : H.schema l.self.rows ≡ H.schema l.initial.self.rows;
-      ready : (contents : Contents) → R.ready l.initial.self.rows contents → R.ready l.self.rows contents;
-      same_test : (contents : Contents) (bad : BadPage) → R.passes l.self.rows contents bad ↔ R.passes l.initial.self.rows contents bad;
-      above : (key : ℕ) → is_above (H.above l.self.rows) key ≡ true → is_above (H.above l.initial.self.rows) key ≡ true;
+      comparison : comparison_of l.self ≡ comparison_of l.initial.self;
+      input : Continues R.names H.schema H.above R.ready R.told R.passes contents l.initial.self.rows l.self.rows;
       ended : R.ended l.initial.self.rows ≡ true → (R.ended l.self.rows ≡ true) × (g.F.Flash.state l.flash ≡ g.F.Flash.state l.initial.flash);
       sound : R.sound l.self.rows contents → R.sound l.initial.self.rows contents;
-      told : R.told l.initial.self.rows contents → R.told l.self.rows contents;
       left : R.told l.initial.self.rows contents →
           filter (row_passes (comparison_of l.initial.self)) (R.left l.self.rows contents)
           ≡ filter (row_passes (comparison_of l.initial.self)) (R.left l.initial.self.rows contents);
