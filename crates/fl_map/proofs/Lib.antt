@@ -1,4 +1,5 @@
 pub mod Chains
+mod Ends
 pub mod Pages
 pub mod ThreeTexts
 pub mod Tables

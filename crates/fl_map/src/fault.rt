@@ -6,7 +6,7 @@ use fl_flash::FlashFault;
 use std::alloc::AllocFailed;
 
 /// Why a map isn't drawn.
-#[derive(Clone, Copy, Debug)]
+#[derive(Clone, Copy)]
 pub(crate) enum MapFault {
     /// The flash failed.
     Flash(FlashFault),

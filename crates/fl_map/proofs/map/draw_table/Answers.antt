@@ -1,4 +1,4 @@
-use Rattle.std.proofs.Common.{◌≡◌, IfSome, Option, refl, subst}
+use Rattle.std.proofs.Common.{◌≡◌, IfSome, Option, inl, inr, refl, sym, ◌∙◌, ap, subst}
 use Rattle.fl_model.specs.Record.{Plan}
 use Rattle.fl_rules.proofs.LooksChangeNothing.{told_still}
 use Rattle.fl_check.proofs.PlacesStay.{fits_still, log_still}
@@ -6,6 +6,9 @@ use Rattle.fl_image_check.proofs.ToldTables.{plan-there, config-there, lies-at, 
 use Rattle.fl_image_check.proofs.Ringed.{fits, log-fits}
 use Rattle.fl_map.specs.Canvas.{drawn_of}
 use Rattle.fl_map.proofs.Tables.{table-drawn}
+use Rattle.fl_base.specs.declared.types.Geometry.{Geometry}
+use Rattle.fl_frame.proofs.ReadsInTurn.{looks_more}
+use Rattle.fl_map.proofs.Ends.{fault-room, fault-top, memory-device, no-more, ok-device, table-top}
 use Rattle.fl_map.proofs.map.draw_table.Goals as goal
 
 pub check_table-requires : goal.check_table-requires
@@ -77,3 +80,127 @@ returns-in-Ok-draw_fault-clause-drawn g c = λ told.
           (drawn_of c.args.canvas.now) (drawn_of c.draw_rings.new.canvas) (drawn_of c.draw_fault.new.canvas) refl c.draw_rings.ensures.drawing called c.check_table.ensures.looks
           (c.in-Ok-draw_rings.ensures.drawn (told_still f f1 c.check_table.ensures.looks told)) c.in-Ok-draw_fault.ensures.drawn;
     }
+
+pub name-name-requires : goal.name-name-requires
+name-name-requires g c = c.requires.table
+
+pub table-table-requires : goal.table-table-requires
+table-table-requires g c = c.requires.table
+
+pub log-log-requires : goal.log-log-requires
+log-log-requires g c = c.requires.table
+
+pub returns-in-Err-Flash-clause-looks : goal.returns-in-Err-Flash-clause-looks
+returns-in-Err-Flash-clause-looks g c = c.check_table.ensures.looks
+
+pub returns-in-Err-Flash-clause-room : goal.returns-in-Err-Flash-clause-room
+returns-in-Err-Flash-clause-room g c = c.requires.room
+
+pub returns-in-Err-Flash-clause-drawing : goal.returns-in-Err-Flash-clause-drawing
+returns-in-Err-Flash-clause-drawing g c = refl
+
+pub returns-in-Err-Flash-clause-top : goal.returns-in-Err-Flash-clause-top
+returns-in-Err-Flash-clause-top g c = no-more _ _
+
+pub returns-in-Err-Flash-clause-statuses : goal.returns-in-Err-Flash-clause-statuses
+returns-in-Err-Flash-clause-statuses g c = inr refl
+
+pub returns-in-Err-NoMemory-clause-looks : goal.returns-in-Err-NoMemory-clause-looks
+returns-in-Err-NoMemory-clause-looks g c = c.check_table.ensures.looks
+
+pub returns-in-Err-NoMemory-clause-room : goal.returns-in-Err-NoMemory-clause-room
+returns-in-Err-NoMemory-clause-room g c = c.requires.room
+
+pub returns-in-Err-NoMemory-clause-drawing : goal.returns-in-Err-NoMemory-clause-drawing
+returns-in-Err-NoMemory-clause-drawing g c = refl
+
+pub returns-in-Err-NoMemory-clause-top : goal.returns-in-Err-NoMemory-clause-top
+returns-in-Err-NoMemory-clause-top g c = no-more _ _
+
+pub returns-in-Err-NoMemory-clause-statuses : goal.returns-in-Err-NoMemory-clause-statuses
+returns-in-Err-NoMemory-clause-statuses g c = inl refl
+
+pub returns-in-Err-NoMemory-clause-device : goal.returns-in-Err-NoMemory-clause-device
+returns-in-Err-NoMemory-clause-device g c = memory-device
+
+pub draw_rings-requires-clause-room : goal.draw_rings-requires-clause-room
+draw_rings-requires-clause-room g c =
+    let lines = c.args.config.now in
+    let f = g.F.Flash.state c.args.flash.now in
+    let table = c.table-table.ensures in
+    let p = plan-there lines.plans c.args.i c.requires.table in
+    let is = config-there lines.plans c.args.i p.0 c.table-table.result.now p.1 table.plan in
+    let whole = fits c.table-table.result.now f (lies-at lines f c.args.i p.0 c.table-table.result.now c.requires.over p.1 is table.first table.device table.limits table.passes) in
+    c.requires.room ∙ ap (λ (x : Geometry). x.page) (sym whole.geometry)
+
+pub draw_rings-requires-clause-top : goal.draw_rings-requires-clause-top
+draw_rings-requires-clause-top g c = c.requires.top
+
+pub returns-in-Err-clause-looks : goal.returns-in-Err-clause-looks
+returns-in-Err-clause-looks g c = looks_more _ _ _ c.check_table.ensures.looks c.draw_rings.ensures.looks
+
+pub returns-in-Err-clause-room : goal.returns-in-Err-clause-room
+returns-in-Err-clause-room g c =
+    let lines = c.args.config.now in
+    let f = g.F.Flash.state c.args.flash.now in
+    let table = c.table-table.ensures in
+    let p = plan-there lines.plans c.args.i c.requires.table in
+    let is = config-there lines.plans c.args.i p.0 c.table-table.result.now p.1 table.plan in
+    let whole = fits c.table-table.result.now f (lies-at lines f c.args.i p.0 c.table-table.result.now c.requires.over p.1 is table.first table.device table.limits table.passes) in
+    c.draw_rings.ensures.room ∙ ap (λ (x : Geometry). x.page) whole.geometry
+
+pub returns-in-Ok-draw_fault-clause-looks : goal.returns-in-Ok-draw_fault-clause-looks
+returns-in-Ok-draw_fault-clause-looks g c = looks_more _ _ _ c.check_table.ensures.looks c.draw_rings.ensures.looks
+
+pub returns-in-Ok-draw_fault-clause-room : goal.returns-in-Ok-draw_fault-clause-room
+returns-in-Ok-draw_fault-clause-room g c =
+    let lines = c.args.config.now in
+    let f = g.F.Flash.state c.args.flash.now in
+    let table = c.table-table.ensures in
+    let p = plan-there lines.plans c.args.i c.requires.table in
+    let is = config-there lines.plans c.args.i p.0 c.table-table.result.now p.1 table.plan in
+    let whole = fits c.table-table.result.now f (lies-at lines f c.args.i p.0 c.table-table.result.now c.requires.over p.1 is table.first table.device table.limits table.passes) in
+    c.draw_rings.ensures.room ∙ ap (λ (x : Geometry). x.page) whole.geometry
+
+pub returns-in-Err-draw_fault-clause-looks : goal.returns-in-Err-draw_fault-clause-looks
+returns-in-Err-draw_fault-clause-looks g c = looks_more _ _ _ c.check_table.ensures.looks c.draw_rings.ensures.looks
+
+pub returns-in-Err-draw_fault-clause-room : goal.returns-in-Err-draw_fault-clause-room
+returns-in-Err-draw_fault-clause-room g c =
+    let lines = c.args.config.now in
+    let f = g.F.Flash.state c.args.flash.now in
+    let table = c.table-table.ensures in
+    let p = plan-there lines.plans c.args.i c.requires.table in
+    let is = config-there lines.plans c.args.i p.0 c.table-table.result.now p.1 table.plan in
+    let whole = fits c.table-table.result.now f (lies-at lines f c.args.i p.0 c.table-table.result.now c.requires.over p.1 is table.first table.device table.limits table.passes) in
+    c.draw_rings.ensures.room ∙ ap (λ (x : Geometry). x.page) whole.geometry
+
+pub returns-in-Err-clause-drawing : goal.returns-in-Err-clause-drawing
+returns-in-Err-clause-drawing g c = c.draw_rings.ensures.drawing
+
+pub returns-in-Err-clause-top : goal.returns-in-Err-clause-top
+returns-in-Err-clause-top g c = table-top _ _ c.draw_rings.ensures.top
+
+pub draw_fault-requires : goal.draw_fault-requires
+draw_fault-requires g c = fault-room _ _ c.draw_rings.ensures.top c.requires.top
+
+pub returns-in-Ok-draw_fault-clause-drawing : goal.returns-in-Ok-draw_fault-clause-drawing
+returns-in-Ok-draw_fault-clause-drawing g c = c.draw_fault.ensures.drawing ∙ c.draw_rings.ensures.drawing
+
+pub returns-in-Ok-draw_fault-clause-top : goal.returns-in-Ok-draw_fault-clause-top
+returns-in-Ok-draw_fault-clause-top g c = fault-top _ _ _ c.draw_rings.ensures.top c.draw_fault.ensures.top
+
+pub returns-in-Err-draw_fault-clause-drawing : goal.returns-in-Err-draw_fault-clause-drawing
+returns-in-Err-draw_fault-clause-drawing g c = c.draw_fault.ensures.drawing ∙ c.draw_rings.ensures.drawing
+
+pub returns-in-Err-draw_fault-clause-top : goal.returns-in-Err-draw_fault-clause-top
+returns-in-Err-draw_fault-clause-top g c = fault-top _ _ _ c.draw_rings.ensures.top c.draw_fault.ensures.top
+
+pub returns-in-Ok-draw_fault-clause-device : goal.returns-in-Ok-draw_fault-clause-device
+returns-in-Ok-draw_fault-clause-device g c = ok-device _
+
+pub returns-in-Err-draw_fault-clause-device : goal.returns-in-Err-draw_fault-clause-device
+returns-in-Err-draw_fault-clause-device g c = memory-device
+
+pub returns-in-Err-draw_fault-clause-statuses : goal.returns-in-Err-draw_fault-clause-statuses
+returns-in-Err-draw_fault-clause-statuses g c = inl refl

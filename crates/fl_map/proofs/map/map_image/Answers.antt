@@ -8,6 +8,8 @@ use Rattle.fl_map.specs.Drawn.{map_text}
 use Rattle.fl_map.specs.Map.{AreDrawn}
 use Rattle.fl_map.specs.declared.drawing.Drawing.{Drawing}
 use Rattle.fl_map.proofs.MapEnds.{over-medium, early-ends, written-ends}
+use Rattle.std.proofs.Math.Nat.{le_refl}
+use Rattle.fl_map.proofs.Ends.{memory-is-device, memory-is-write, read-is-write, written-is-device}
 use Rattle.fl_map.proofs.map.map_image.Goals as goal
 
 pub with_room-flash-requires-clause-reach : goal.with_room-flash-requires-clause-reach
@@ -57,3 +59,48 @@ returns-in-Ok-drawn-clause-ends g c told =
     })
     (λ is. subst (λ (x : Drawing). Appends before now (map_text x block (drawn_of canvas))) c.in-Ok-drawn.ensures.drawing (c.write_map.ensures.done is))
     (λ is. subst (λ (x : Drawing). AppendsFront before now (map_text x block (drawn_of canvas))) c.in-Ok-drawn.ensures.drawing (c.write_map.ensures.part is))
+
+pub returns-in_default-clause-device : goal.returns-in_default-clause-device
+returns-in_default-clause-device g c = memory-is-device
+
+pub returns-in_default-clause-write : goal.returns-in_default-clause-write
+returns-in_default-clause-write g c = memory-is-write
+
+pub returns-in_default-clause-later : goal.returns-in_default-clause-later
+returns-in_default-clause-later g c = le_refl (g.K.Sink.faults c.args.out.now)
+
+pub returns-in_default-new-clause-device : goal.returns-in_default-new-clause-device
+returns-in_default-new-clause-device g c = memory-is-device
+
+pub returns-in_default-new-clause-write : goal.returns-in_default-new-clause-write
+returns-in_default-new-clause-write g c = memory-is-write
+
+pub returns-in_default-new-clause-later : goal.returns-in_default-new-clause-later
+returns-in_default-new-clause-later g c = le_refl (g.K.Sink.faults c.args.out.now)
+
+pub returns-in_default-new-clause-looks : goal.returns-in_default-new-clause-looks
+returns-in_default-new-clause-looks g c = c.in-Ok-config_of_image.ensures.looks
+
+pub returns-in-Err-clause-looks : goal.returns-in-Err-clause-looks
+returns-in-Err-clause-looks g c = c.in-Err.ensures.looks
+
+pub returns-in-Err-clause-device : goal.returns-in-Err-clause-device
+returns-in-Err-clause-device g c = λ is. c.in-Err.ensures.device (ap (λ s. Err s) is)
+
+pub returns-in-Err-clause-write : goal.returns-in-Err-clause-write
+returns-in-Err-clause-write g c = read-is-write c.in-Err.status c.in-Err.ensures.statuses
+
+pub returns-in-Err-clause-later : goal.returns-in-Err-clause-later
+returns-in-Err-clause-later g c = le_refl (g.K.Sink.faults c.args.out.now)
+
+pub returns-in-Ok-drawn-clause-device : goal.returns-in-Ok-drawn-clause-device
+returns-in-Ok-drawn-clause-device g c = written-is-device c.write_map.result c.write_map.ensures.statuses
+
+pub returns-in-Ok-drawn-clause-write : goal.returns-in-Ok-drawn-clause-write
+returns-in-Ok-drawn-clause-write g c = c.write_map.ensures.write
+
+pub returns-in-Ok-drawn-clause-later : goal.returns-in-Ok-drawn-clause-later
+returns-in-Ok-drawn-clause-later g c = c.write_map.ensures.later
+
+pub returns-clause-later : goal.returns-clause-later
+returns-clause-later g c = le_refl (g.K.Sink.faults c.args.out.now)

@@ -9,6 +9,7 @@ use Rattle.fl_frame.proofs.ReadsInTurn.{more_reads, same_page, told_still}
 use Rattle.fl_map.specs.Pages.{states_to, with_page}
 use Rattle.fl_map.specs.declared.note.Figures.{Figures}
 use Rattle.fl_map.proofs.Pages.{states_next, figures_next, is_there, reads_within}
+use Rattle.fl_map.proofs.Ends.{none-if, none-on}
 use Rattle.fl_map.proofs.ring.read_pages.Goals as goal
 
 pub look-requires-clause-exists : goal.look-requires-clause-exists
@@ -51,3 +52,50 @@ loop-i-preserved g c =
           ∙ ap (λ (f : Figures). with_page row_len (page_at first (r.first + c.loop-i.i)) f) (c.loop-i.invariant.figures told)
           ∙ sym (figures_next row_len (page_at first) r.first c.loop-i.i);
     }
+
+pub returns-in_err-state-clause-reads : goal.returns-in_err-state-clause-reads
+returns-in_err-state-clause-reads g c =
+    reads_within (g.F.Flash.state c.args.flash.now) (g.F.Flash.state c.look.new.flash) (c.loop-i.i + 1) (room (shape_of c.args.ring.now)) (omega (arith, c.loop-i-test.true, c.room-i-end.ensures.pages))
+    (more_reads (g.F.Flash.state c.args.flash.now) (g.F.Flash.state c.loop-i.flash) (g.F.Flash.state c.look.new.flash) c.loop-i.i 1 c.loop-i.invariant.reads c.look.ensures.reads)
+
+pub returns-in_err-state-clause-room : goal.returns-in_err-state-clause-room
+returns-in_err-state-clause-room g c = c.look.ensures.room ∙ c.loop-i.invariant.room
+
+pub returns-in_err-state-clause-count : goal.returns-in_err-state-clause-count
+returns-in_err-state-clause-count g c = none-on c.from_residual.result _ c.from_residual.ensures.0
+
+pub returns-in_err-state-clause-few : goal.returns-in_err-state-clause-few
+returns-in_err-state-clause-few g c = none-on c.from_residual.result _ c.from_residual.ensures.0
+
+pub returns-in_err-state-clause-states : goal.returns-in_err-state-clause-states
+returns-in_err-state-clause-states g c = none-on c.from_residual.result _ c.from_residual.ensures.0
+
+pub returns-in_err-state-clause-figures : goal.returns-in_err-state-clause-figures
+returns-in_err-state-clause-figures g c = none-if c.from_residual.result _ c.from_residual.ensures.0
+
+pub returns-in_err-push-clause-room : goal.returns-in_err-push-clause-room
+returns-in_err-push-clause-room g c = c.look.ensures.room ∙ c.loop-i.invariant.room
+
+pub returns-in_err-push-clause-count : goal.returns-in_err-push-clause-count
+returns-in_err-push-clause-count g c = none-on c.from_residual-in_err-push.result _ c.from_residual-in_err-push.ensures.0
+
+pub returns-in_err-push-clause-few : goal.returns-in_err-push-clause-few
+returns-in_err-push-clause-few g c = none-on c.from_residual-in_err-push.result _ c.from_residual-in_err-push.ensures.0
+
+pub returns-in_err-push-clause-states : goal.returns-in_err-push-clause-states
+returns-in_err-push-clause-states g c = none-on c.from_residual-in_err-push.result _ c.from_residual-in_err-push.ensures.0
+
+pub returns-in_err-push-clause-figures : goal.returns-in_err-push-clause-figures
+returns-in_err-push-clause-figures g c = none-if c.from_residual-in_err-push.result _ c.from_residual-in_err-push.ensures.0
+
+pub with_page-figures-requires-clause-least : goal.with_page-figures-requires-clause-least
+with_page-figures-requires-clause-least g c = rw (c.bytes.ensures, c.look.ensures.room, c.loop-i.invariant.room) c.requires.size.0
+
+pub with_page-figures-requires-clause-most : goal.with_page-figures-requires-clause-most
+with_page-figures-requires-clause-most g c = rw (c.bytes.ensures, c.look.ensures.room, c.loop-i.invariant.room) c.requires.size.1
+
+pub with_page-figures-requires-clause-short : goal.with_page-figures-requires-clause-short
+with_page-figures-requires-clause-short g c = c.requires.short
+
+pub returns-clause-room : goal.returns-clause-room
+returns-clause-room g c = c.loop-i.invariant.room

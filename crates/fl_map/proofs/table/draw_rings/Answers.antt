@@ -4,6 +4,8 @@ use Rattle.fl_rules.proofs.LooksChangeNothing.{told_still}
 use Rattle.fl_check.proofs.PlacesStay.{fits_still, log_still}
 use Rattle.fl_map.specs.Canvas.{drawn_of}
 use Rattle.fl_map.proofs.Tables.{lies-there, log-there, rings-drawn}
+use Rattle.std.proofs.Common.{◌∙◌}
+use Rattle.fl_map.proofs.Ends.{first-top, last-top, no-more, none-on, ring-room, second-top, third-top}
 use Rattle.fl_map.proofs.table.draw_rings.Goals as goal
 
 pub draw_ring_if-requires-clause-fits : goal.draw_ring_if-requires-clause-fits
@@ -55,3 +57,102 @@ returns-clause-drawn g c = λ told.
     c.draw_ring.ensures.drawing c.draw_ring_if.ensures.drawing c.draw_ring_if-2.ensures.drawing (c.row_len.ensures.exact nameless) l1 l2 l3
     (c.in_ok-draw_ring.ensures.drawn told) (c.in_ok-draw_ring_if.ensures.drawn (told_still f0 f1 l1 told)) (c.in_ok-draw_ring_if-2.ensures.drawn (told_still f0 f2 l2 told))
     (c.in_ok-draw_ring_if-3.ensures.drawn (told_still f0 f3 l3 told))
+
+pub draw_ring-requires-clause-fits : goal.draw_ring-requires-clause-fits
+draw_ring-requires-clause-fits g c = c.requires.fits
+
+pub draw_ring-requires-clause-blocks : goal.draw_ring-requires-clause-blocks
+draw_ring-requires-clause-blocks g c = c.requires.fits.limits.rows.0
+
+pub draw_ring-requires-clause-lies : goal.draw_ring-requires-clause-lies
+draw_ring-requires-clause-lies g c = c.requires.fits.rows
+
+pub draw_ring-requires-clause-room : goal.draw_ring-requires-clause-room
+draw_ring-requires-clause-room g c = c.requires.room
+
+pub draw_ring-requires-clause-short : goal.draw_ring-requires-clause-short
+draw_ring-requires-clause-short g c = c.row_len.ensures.short
+
+pub draw_ring-requires-clause-top : goal.draw_ring-requires-clause-top
+draw_ring-requires-clause-top g c = ring-room _ _ c.requires.top (no-more _ _)
+
+pub returns-in_err-draw_ring-clause-looks : goal.returns-in_err-draw_ring-clause-looks
+returns-in_err-draw_ring-clause-looks g c = c.draw_ring.ensures.looks
+
+pub returns-in_err-draw_ring-clause-room : goal.returns-in_err-draw_ring-clause-room
+returns-in_err-draw_ring-clause-room g c = c.draw_ring.ensures.room
+
+pub returns-in_err-draw_ring-clause-drawing : goal.returns-in_err-draw_ring-clause-drawing
+returns-in_err-draw_ring-clause-drawing g c = c.draw_ring.ensures.drawing
+
+pub returns-in_err-draw_ring-clause-drawn : goal.returns-in_err-draw_ring-clause-drawn
+returns-in_err-draw_ring-clause-drawn g c = none-on c.from_residual.result _ c.from_residual.ensures.0
+
+pub returns-in_err-draw_ring-clause-top : goal.returns-in_err-draw_ring-clause-top
+returns-in_err-draw_ring-clause-top g c = first-top _ _ 0 0 0 c.draw_ring.ensures.top
+
+pub returns-in_err-draw_ring_if-clause-looks : goal.returns-in_err-draw_ring_if-clause-looks
+returns-in_err-draw_ring_if-clause-looks g c = looks_more _ _ _ c.draw_ring.ensures.looks c.draw_ring_if.ensures.looks
+
+pub returns-in_err-draw_ring_if-clause-room : goal.returns-in_err-draw_ring_if-clause-room
+returns-in_err-draw_ring_if-clause-room g c = c.draw_ring_if.ensures.room
+
+pub returns-in_err-draw_ring_if-clause-drawing : goal.returns-in_err-draw_ring_if-clause-drawing
+returns-in_err-draw_ring_if-clause-drawing g c = c.draw_ring_if.ensures.drawing ∙ c.draw_ring.ensures.drawing
+
+pub returns-in_err-draw_ring_if-clause-drawn : goal.returns-in_err-draw_ring_if-clause-drawn
+returns-in_err-draw_ring_if-clause-drawn g c = none-on c.from_residual-in_err-draw_ring_if.result _ c.from_residual-in_err-draw_ring_if.ensures.0
+
+pub returns-in_err-draw_ring_if-clause-top : goal.returns-in_err-draw_ring_if-clause-top
+returns-in_err-draw_ring_if-clause-top g c = second-top _ _ _ 0 0 c.draw_ring.ensures.top c.draw_ring_if.ensures.top
+
+pub returns-in_err-draw_ring_if-2-clause-room : goal.returns-in_err-draw_ring_if-2-clause-room
+returns-in_err-draw_ring_if-2-clause-room g c = c.draw_ring_if-2.ensures.room
+
+pub returns-in_err-draw_ring_if-2-clause-drawing : goal.returns-in_err-draw_ring_if-2-clause-drawing
+returns-in_err-draw_ring_if-2-clause-drawing g c = c.draw_ring_if-2.ensures.drawing ∙ c.draw_ring_if.ensures.drawing ∙ c.draw_ring.ensures.drawing
+
+pub returns-in_err-draw_ring_if-2-clause-drawn : goal.returns-in_err-draw_ring_if-2-clause-drawn
+returns-in_err-draw_ring_if-2-clause-drawn g c = none-on c.from_residual-in_err-draw_ring_if-2.result _ c.from_residual-in_err-draw_ring_if-2.ensures.0
+
+pub returns-in_err-draw_ring_if-2-clause-top : goal.returns-in_err-draw_ring_if-2-clause-top
+returns-in_err-draw_ring_if-2-clause-top g c = third-top _ _ _ _ 0 c.draw_ring.ensures.top c.draw_ring_if.ensures.top c.draw_ring_if-2.ensures.top
+
+pub returns-in_err-draw_ring_if-3-clause-room : goal.returns-in_err-draw_ring_if-3-clause-room
+returns-in_err-draw_ring_if-3-clause-room g c = c.draw_ring_if-3.ensures.room
+
+pub returns-in_err-draw_ring_if-3-clause-drawing : goal.returns-in_err-draw_ring_if-3-clause-drawing
+returns-in_err-draw_ring_if-3-clause-drawing g c = c.draw_ring_if-3.ensures.drawing ∙ c.draw_ring_if-2.ensures.drawing ∙ c.draw_ring_if.ensures.drawing ∙ c.draw_ring.ensures.drawing
+
+pub returns-in_err-draw_ring_if-3-clause-drawn : goal.returns-in_err-draw_ring_if-3-clause-drawn
+returns-in_err-draw_ring_if-3-clause-drawn g c = none-on c.from_residual-in_err-draw_ring_if-3.result _ c.from_residual-in_err-draw_ring_if-3.ensures.0
+
+pub returns-in_err-draw_ring_if-3-clause-top : goal.returns-in_err-draw_ring_if-3-clause-top
+returns-in_err-draw_ring_if-3-clause-top g c = last-top _ _ _ _ _ c.draw_ring.ensures.top c.draw_ring_if.ensures.top c.draw_ring_if-2.ensures.top c.draw_ring_if-3.ensures.top
+
+pub draw_ring_if-requires-clause-room : goal.draw_ring_if-requires-clause-room
+draw_ring_if-requires-clause-room g c = c.draw_ring.ensures.room
+
+pub draw_ring_if-requires-clause-top : goal.draw_ring_if-requires-clause-top
+draw_ring_if-requires-clause-top g c = ring-room _ _ c.requires.top (first-top _ _ 0 0 0 c.draw_ring.ensures.top)
+
+pub draw_ring_if-requires-2-clause-room : goal.draw_ring_if-requires-2-clause-room
+draw_ring_if-requires-2-clause-room g c = c.draw_ring_if.ensures.room
+
+pub draw_ring_if-requires-2-clause-top : goal.draw_ring_if-requires-2-clause-top
+draw_ring_if-requires-2-clause-top g c = ring-room _ _ c.requires.top (second-top _ _ _ 0 0 c.draw_ring.ensures.top c.draw_ring_if.ensures.top)
+
+pub draw_ring_if-requires-3-clause-room : goal.draw_ring_if-requires-3-clause-room
+draw_ring_if-requires-3-clause-room g c = c.draw_ring_if-2.ensures.room
+
+pub draw_ring_if-requires-3-clause-top : goal.draw_ring_if-requires-3-clause-top
+draw_ring_if-requires-3-clause-top g c = ring-room _ _ c.requires.top (third-top _ _ _ _ 0 c.draw_ring.ensures.top c.draw_ring_if.ensures.top c.draw_ring_if-2.ensures.top)
+
+pub returns-clause-room : goal.returns-clause-room
+returns-clause-room g c = c.draw_ring_if-3.ensures.room
+
+pub returns-clause-drawing : goal.returns-clause-drawing
+returns-clause-drawing g c = c.draw_ring_if-3.ensures.drawing ∙ c.draw_ring_if-2.ensures.drawing ∙ c.draw_ring_if.ensures.drawing ∙ c.draw_ring.ensures.drawing
+
+pub returns-clause-top : goal.returns-clause-top
+returns-clause-top g c = last-top _ _ _ _ _ c.draw_ring.ensures.top c.draw_ring_if.ensures.top c.draw_ring_if-2.ensures.top c.draw_ring_if-3.ensures.top
