@@ -1,11 +1,10 @@
 -- A step of lines, by the step of what they show.
-use Rattle.std.proofs.Common.{◌≡◌, ◌⊎◌, ℕ, ◌<◌, ◌^◌, Bool, true, false, inl, inr, Option, Some, Result, Ok, Err, IfOk, List, [], ◌∷◌, ◌++◌, length, map, refl, sym, ◌∙◌, ap, OnOk, OnErr}
+use Rattle.std.proofs.Common.{◌≡◌, ◌⊎◌, ℕ, ◌<◌, ◌^◌, Bool, true, false, inl, inr, Option, Some, Result, Ok, Err, IfOk, List, [], ◌∷◌, ◌++◌, map, refl, ◌∙◌, ap, OnOk, OnErr}
 use Rattle.std.specs.Bool.{OnTrue, OnFalse}
 use Rattle.std.proofs.lemmas.Bool.{OnTrue_from}
 use Rattle.std.proofs.lemmas.Result.{IfOk-weaker}
-use Rattle.std.specs.Borrow.{Bor}
-use Rattle.fl_cursor.specs.Cursor.{mark_of, present_of, table_of}
-use Rattle.fl_cursor.specs.Going.{Goes, Fails}
+use Rattle.fl_cursor.specs.Cursor.{mark_of, present_of, IsReady}
+use Rattle.fl_cursor.specs.Going.{Keeps, Goes, Fails}
 use Rattle.fl_cursor.specs.declared.bookmark.Bookmark.{Bookmark}
 use Rattle.fl_cursor.specs.declared.cursor.Cursor.{Cursor}
 use Rattle.fl_frame.specs.Contents.{Contents}
@@ -15,8 +14,6 @@ use Rattle.fl_ops.specs.Inputs.{StepsOver}
 use Rattle.fl_page.specs.Steps.{Steps}
 use Rattle.fl_page.specs.declared.fault.ReadFault.{ReadFault}
 use Rattle.fl_page.specs.declared.fault.ReadFault.TheVariants.{Flash, BadPage}
-use Rattle.fl_table.specs.Look.{layout_in}
-use Rattle.fl_table.specs.declared.table.Table.{Table}
 use Rattle.fl_words.specs.Reply.{Reply}
 use Rattle.fl_queries.specs.Lines.{MakesLine}
 use Rattle.fl_queries.specs.Rising.{IsRow, RiseTo}
@@ -65,11 +62,15 @@ moves-line blobs first old new before contents reads reads_now (Ok true) goes fa
 moves-line blobs first old new before contents reads reads_now (Ok false) goes fails over = over-same blobs first (mark_of old) (mark_of new) before over goes.notes
 moves-line blobs first old new before contents reads reads_now (Err fault) goes fails over = over-same blobs first (mark_of old) (mark_of new) before over fails.notes
 
--- .. which stay rows of the same table
-pub fits-after : (old new : Cursor 64 64) (contents : Contents) (reads reads_now : ℕ) (result : Result Bool ReadFault) → IfOk result (λ more. Goes more contents reads old reads_now new) → OnErr result (Fails contents reads old reads_now new) →
-    length (layout_in (table_of old)).columns ≡ length (layout_in (table_of new)).columns
-fits-after old new contents reads reads_now (Ok more) goes fails = ap (λ (t : Bor (Table 64 64)). length (layout_in t.now).columns) (sym goes.keeps.table)
-fits-after old new contents reads reads_now (Err fault) goes fails = ap (λ (t : Bor (Table 64 64)). length (layout_in t.now).columns) (sym fails.keeps.table)
+-- .. and holds the same table and the same references
+pub keeps-after : (old new : Cursor 64 64) (contents : Contents) (reads reads_now : ℕ) (result : Result Bool ReadFault) → IfOk result (λ more. Goes more contents reads old reads_now new) → OnErr result (Fails contents reads old reads_now new) → Keeps old new
+keeps-after old new contents reads reads_now (Ok more) goes fails = goes.keeps
+keeps-after old new contents reads reads_now (Err fault) goes fails = fails.keeps
+
+pub ready-after : (old new : Cursor 64 64) (contents : Contents) (reads reads_now : ℕ) (result : Result Bool ReadFault) → IfOk result (λ more. Goes more contents reads old reads_now new) → OnErr result (Fails contents reads old reads_now new) →
+    (held : Contents) → IsReady old held → IsReady new held
+ready-after old new contents reads reads_now (Ok more) goes fails = goes.ready
+ready-after old new contents reads reads_now (Err fault) goes fails = fails.ready
 
 -- ---- two inputs
 

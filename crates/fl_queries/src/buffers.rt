@@ -1,5 +1,5 @@
 // Room for the pages in hand.
-ghost use Rattle.std.specs.Prelude.{◌≡◌, false, length, IfOk};
+ghost use Rattle.std.specs.Prelude.{◌≡◌, None, false, length, IfOk};
 ghost use Rattle.fl_queries.specs.Room.{AreForgotten};
 
 use fl_base::NoMemory;
@@ -15,6 +15,14 @@ pub struct Buffers {
     pub right_index: PageBuf,
 }
 
+/// Room for a page of rows and for one of an index.
+fn page_pair(alloc: Global, size: u32) -> Result<(PageBuf, PageBuf), NoMemory>
+    ensures size { IfOk result (λ pair. (length pair.0.bytes ≡ size) × (length pair.1.bytes ≡ size)) }
+    ensures none { IfOk result (λ pair. (pair.0.holds ≡ None) × (pair.1.holds ≡ None)) }
+{
+    Ok((PageBuf::new(alloc, size)?, PageBuf::new(alloc, size)?))
+}
+
 impl Buffers {
     /// Room for pages of so many bytes.
     ///
@@ -28,11 +36,13 @@ impl Buffers {
         ensures right_index { IfOk result (λ b. length b.right_index.bytes ≡ size) }
         ensures none { IfOk result AreForgotten }
     {
+        let (rows, index) = page_pair(alloc, size)?;
+        let (right_rows, right_index) = page_pair(alloc, size)?;
         Ok(Buffers {
-            rows: PageBuf::new(alloc, size)?,
-            index: PageBuf::new(alloc, size)?,
-            right_rows: PageBuf::new(alloc, size)?,
-            right_index: PageBuf::new(alloc, size)?,
+            rows,
+            index,
+            right_rows,
+            right_index,
         })
     }
 

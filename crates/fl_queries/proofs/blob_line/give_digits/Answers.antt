@@ -1,4 +1,4 @@
-use Rattle.std.proofs.Common.{◌≡◌, ℕ, zero, suc, ◌≤◌, Bool, true, false, Result, Ok, Err, List, [], ◌++◌, append_assoc, refl, sym, ◌∙◌, ap, subst, arith, append-nil}
+use Rattle.std.proofs.Common.{◌≡◌, ℕ, zero, suc, ◌≤◌, Bool, true, false, Result, Ok, Err, List, [], ◌++◌, append_assoc, refl, sym, ◌∙◌, ap, subst, arith, append-nil, le_trans}
 use Rattle.std.proofs.lemmas.Result.{err_from_is_err_and}
 use Rattle.std.proofs.lemmas.Bool.{false≢true}
 use Rattle.fl_base.specs.Causes.{Appends, AppendsFront}
@@ -11,6 +11,7 @@ use Rattle.fl_store.proofs.Appends.{appends-none}
 use Rattle.fl_queries.proofs.AnyBlobs.{digits-into, digits-more}
 use Rattle.fl_queries.proofs.BadBlobs.{ahead-held, none-behind}
 use Rattle.fl_queries.proofs.BlobLines.{gave-none, gave-chunk, gave-failed, gave-all, gave-unread}
+use Rattle.fl_store.proofs.CallsInTurn.{rose-back}
 use Rattle.fl_queries.proofs.blob_line.give_digits.Goals as goal
 
 -- a step that failed wasn't at the end
@@ -149,3 +150,57 @@ returns-clause-digits g c =
             sym (append-nil inv.digits.0) ∙ (ap (λ (l : List ℕ). inv.digits.0 ++ l) (sym steps.0) ∙ inv.digits.2 ready),
           ),
     )
+
+pub returns-in_err-step-clause-lies : goal.returns-in_err-step-clause-lies
+returns-in_err-step-clause-lies g c = c.in_err-step.ensures.lies
+
+pub returns-in_err-step-clause-data : goal.returns-in_err-step-clause-data
+returns-in_err-step-clause-data g c = c.in_err-step.ensures.data ∙ c.loop-reader.invariant.same
+
+pub returns-in_err-step-clause-buffer : goal.returns-in_err-step-clause-buffer
+returns-in_err-step-clause-buffer g c = c.in_err-step.ensures.buffer ∙ c.loop-reader.invariant.buffer
+
+pub returns-in_err-step-clause-later : goal.returns-in_err-step-clause-later
+returns-in_err-step-clause-later g c = c.loop-reader.invariant.later
+
+pub returns-in_err-write_digits-clause-lies : goal.returns-in_err-write_digits-clause-lies
+returns-in_err-write_digits-clause-lies g c = c.in_ok-step.ensures.lies
+
+pub returns-in_err-write_digits-clause-data : goal.returns-in_err-write_digits-clause-data
+returns-in_err-write_digits-clause-data g c = c.in_ok-step.ensures.data ∙ c.loop-reader.invariant.same
+
+pub returns-in_err-write_digits-clause-buffer : goal.returns-in_err-write_digits-clause-buffer
+returns-in_err-write_digits-clause-buffer g c = c.in_ok-step.ensures.buffer ∙ c.loop-reader.invariant.buffer
+
+pub returns-in_err-write_digits-clause-later : goal.returns-in_err-write_digits-clause-later
+returns-in_err-write_digits-clause-later g c = le_trans c.loop-reader.invariant.later c.write_digits.ensures.cause.later
+
+pub returns-clause-lies : goal.returns-clause-lies
+returns-clause-lies g c = c.in_ok-step.ensures.lies
+
+pub returns-clause-data : goal.returns-clause-data
+returns-clause-data g c = c.in_ok-step.ensures.data ∙ c.loop-reader.invariant.same
+
+pub returns-clause-buffer : goal.returns-clause-buffer
+returns-clause-buffer g c = c.in_ok-step.ensures.buffer ∙ c.loop-reader.invariant.buffer
+
+pub returns-clause-later : goal.returns-clause-later
+returns-clause-later g c = c.loop-reader.invariant.later
+
+pub returns-in_err-step-clause-sink : goal.returns-in_err-step-clause-sink
+returns-in_err-step-clause-sink g c = let p = err_from_is_err_and c.from_residual.result c.from_residual.ensures.1 in rw (p.1, p.2) tt
+
+pub returns-in_err-write_digits-clause-sink : goal.returns-in_err-write_digits-clause-sink
+returns-in_err-write_digits-clause-sink g c = let p = err_from_is_err_and c.from_residual-in_err-write_digits.result c.from_residual-in_err-write_digits.ensures.1 in rw (p.1, p.2) (rose-back _ _ _ c.loop-reader.invariant.later c.in_err-write_digits.ensures.cause.failed)
+
+pub returns-in_err-write_digits-clause-unread : goal.returns-in_err-write_digits-clause-unread
+returns-in_err-write_digits-clause-unread g c = let p = err_from_is_err_and c.from_residual-in_err-write_digits.result c.from_residual-in_err-write_digits.ensures.1 in rw (p.1, p.2) tt
+
+pub returns-clause-sink : goal.returns-clause-sink
+returns-clause-sink g c = tt
+
+pub returns-clause-unread : goal.returns-clause-unread
+returns-clause-unread g c = tt
+
+pub step-requires : goal.step-requires
+step-requires g c = record { lies = c.loop-reader.invariant.lies }

@@ -1,4 +1,4 @@
-use Rattle.std.proofs.Common.{◌≡◌, ℕ, codes, Err, List, [], ◌∷◌, ◌++◌, subst}
+use Rattle.std.proofs.Common.{◌≡◌, ℕ, codes, Err, List, [], ◌∷◌, ◌++◌, subst, ◌+◌, ◌≤◌, refl, arith}
 use Rattle.std.proofs.lemmas.Result.{err_from_is_err_and}
 use Rattle.std.proofs.lemmas.Bool.{false≢true}
 use Rattle.fl_script.specs.Written.{Written}
@@ -10,7 +10,11 @@ use Rattle.fl_queries.specs.declared.listing.ListFault.TheVariants.{Sink, Read}
 use Rattle.fl_store.proofs.Appends.{front-more}
 use Rattle.fl_queries.proofs.AnyBlobs.{says-begun, says-cut, says-parts, says-sunk}
 use Rattle.fl_queries.proofs.BlobLines.{written-after, shows-line, shows-unread, shows-unended, rose-with}
+use Rattle.fl_frame.proofs.ContentsInTurn.{OnlyReads-same}
 use Rattle.fl_queries.proofs.blob_line.show_bytes.Goals as goal
+
+no-more : (reads more : ℕ) → reads ≤ reads + more
+no-more reads more = omega arith
 
 pub returns-in_err-write_reply-clause-shows : goal.returns-in_err-write_reply-clause-shows
 returns-in_err-write_reply-clause-shows g c = λ ready whole turned on.
@@ -105,3 +109,84 @@ returns-in_ok-write_reply-in-Err-Read-clause-tells g c =
     subst (λ (l : List ℕ). Written (g.K.Sink.written c.write_reply-in-Err-Read.new.out) (g.K.Sink.written c.write_reply-in-Err-Read-2.new.out) c.write_reply-in-Err-Read-2.result l) c.read_reply.ensures c.write_reply-in-Err-Read-2.ensures.text in
     says-cut (TellsLeft r f) (MayBeBadAhead r f) (MayBeBadAhead r f) f h _ _ _ given.0.0 (g.K.Sink.written c.write_reply.new.out) (g.K.Sink.written c.give_digits.new.out) (g.K.Sink.written c.write_reply-in-Err-Read.new.out) c.in-Err-Read.fault caused given.1 c.in_ok-write_reply.ensures.text given.0.1
     c.in_ok-write_reply-in-Err-Read.ensures.text said
+
+pub returns-in_err-write_reply-clause-counts : goal.returns-in_err-write_reply-clause-counts
+returns-in_err-write_reply-clause-counts g c = OnlyReads-same _
+
+pub returns-in_err-write_reply-clause-lies : goal.returns-in_err-write_reply-clause-lies
+returns-in_err-write_reply-clause-lies g c = c.requires.lies
+
+pub returns-in_err-write_reply-clause-data : goal.returns-in_err-write_reply-clause-data
+returns-in_err-write_reply-clause-data g c = refl
+
+pub returns-in_err-write_reply-clause-buffer : goal.returns-in_err-write_reply-clause-buffer
+returns-in_err-write_reply-clause-buffer g c = refl
+
+pub returns-in_err-write_reply-clause-reads : goal.returns-in_err-write_reply-clause-reads
+returns-in_err-write_reply-clause-reads g c = λ ready whole. no-more _ _
+
+pub returns-in_err-write_reply-clause-cause : goal.returns-in_err-write_reply-clause-cause
+returns-in_err-write_reply-clause-cause g c = let p = err_from_is_err_and c.from_residual.result c.from_residual.ensures.1 in record { later = c.write_reply.ensures.cause.later; failed = rw p.1 c.in_err-write_reply.ensures.cause.failed }
+
+pub returns-in-Ok-clause-counts : goal.returns-in-Ok-clause-counts
+returns-in-Ok-clause-counts g c = c.give_digits.ensures.counts
+
+pub returns-in-Ok-clause-lies : goal.returns-in-Ok-clause-lies
+returns-in-Ok-clause-lies g c = c.give_digits.ensures.lies
+
+pub returns-in-Ok-clause-data : goal.returns-in-Ok-clause-data
+returns-in-Ok-clause-data g c = c.give_digits.ensures.data
+
+pub returns-in-Ok-clause-buffer : goal.returns-in-Ok-clause-buffer
+returns-in-Ok-clause-buffer g c = c.give_digits.ensures.buffer
+
+pub returns-in-Ok-clause-reads : goal.returns-in-Ok-clause-reads
+returns-in-Ok-clause-reads g c = c.give_digits.ensures.reads
+
+pub returns-in-Err-Sink-clause-counts : goal.returns-in-Err-Sink-clause-counts
+returns-in-Err-Sink-clause-counts g c = c.give_digits.ensures.counts
+
+pub returns-in-Err-Sink-clause-lies : goal.returns-in-Err-Sink-clause-lies
+returns-in-Err-Sink-clause-lies g c = c.give_digits.ensures.lies
+
+pub returns-in-Err-Sink-clause-data : goal.returns-in-Err-Sink-clause-data
+returns-in-Err-Sink-clause-data g c = c.give_digits.ensures.data
+
+pub returns-in-Err-Sink-clause-buffer : goal.returns-in-Err-Sink-clause-buffer
+returns-in-Err-Sink-clause-buffer g c = c.give_digits.ensures.buffer
+
+pub returns-in-Err-Sink-clause-reads : goal.returns-in-Err-Sink-clause-reads
+returns-in-Err-Sink-clause-reads g c = c.give_digits.ensures.reads
+
+pub returns-in_err-write_reply-in-Err-Read-clause-counts : goal.returns-in_err-write_reply-in-Err-Read-clause-counts
+returns-in_err-write_reply-in-Err-Read-clause-counts g c = c.give_digits.ensures.counts
+
+pub returns-in_err-write_reply-in-Err-Read-clause-lies : goal.returns-in_err-write_reply-in-Err-Read-clause-lies
+returns-in_err-write_reply-in-Err-Read-clause-lies g c = c.give_digits.ensures.lies
+
+pub returns-in_err-write_reply-in-Err-Read-clause-data : goal.returns-in_err-write_reply-in-Err-Read-clause-data
+returns-in_err-write_reply-in-Err-Read-clause-data g c = c.give_digits.ensures.data
+
+pub returns-in_err-write_reply-in-Err-Read-clause-buffer : goal.returns-in_err-write_reply-in-Err-Read-clause-buffer
+returns-in_err-write_reply-in-Err-Read-clause-buffer g c = c.give_digits.ensures.buffer
+
+pub returns-in_err-write_reply-in-Err-Read-clause-reads : goal.returns-in_err-write_reply-in-Err-Read-clause-reads
+returns-in_err-write_reply-in-Err-Read-clause-reads g c = c.give_digits.ensures.reads
+
+pub returns-in_ok-write_reply-in-Err-Read-clause-counts : goal.returns-in_ok-write_reply-in-Err-Read-clause-counts
+returns-in_ok-write_reply-in-Err-Read-clause-counts g c = c.give_digits.ensures.counts
+
+pub returns-in_ok-write_reply-in-Err-Read-clause-lies : goal.returns-in_ok-write_reply-in-Err-Read-clause-lies
+returns-in_ok-write_reply-in-Err-Read-clause-lies g c = c.give_digits.ensures.lies
+
+pub returns-in_ok-write_reply-in-Err-Read-clause-data : goal.returns-in_ok-write_reply-in-Err-Read-clause-data
+returns-in_ok-write_reply-in-Err-Read-clause-data g c = c.give_digits.ensures.data
+
+pub returns-in_ok-write_reply-in-Err-Read-clause-buffer : goal.returns-in_ok-write_reply-in-Err-Read-clause-buffer
+returns-in_ok-write_reply-in-Err-Read-clause-buffer g c = c.give_digits.ensures.buffer
+
+pub returns-in_ok-write_reply-in-Err-Read-clause-reads : goal.returns-in_ok-write_reply-in-Err-Read-clause-reads
+returns-in_ok-write_reply-in-Err-Read-clause-reads g c = c.give_digits.ensures.reads
+
+pub give_digits-requires : goal.give_digits-requires
+give_digits-requires g c = record { lies = c.requires.lies }

@@ -234,3 +234,18 @@ returns-in_err-show_line-clause-cause g c = let p = err_from_is_err_and c.from_r
 
 pub returns-clause-cause : goal.returns-clause-cause
 returns-clause-cause g c = record { later = c.loop-given.invariant.later; failed = tt }
+
+pub returns-in_err-next_line-clause-whole : goal.returns-in_err-next_line-clause-whole
+returns-in_err-next_line-clause-whole g c = λ t. let p = err_from_is_err_and c.from_residual.result c.from_residual.ensures.1 in rw p.1 tt
+
+pub returns-in_err-next_line-clause-sound : goal.returns-in_err-next_line-clause-sound
+returns-in_err-next_line-clause-sound g c = let p = err_from_is_err_and c.from_residual.result c.from_residual.ensures.1 in rw p.1 tt
+
+pub returns-in_err-show_line-clause-whole : goal.returns-in_err-show_line-clause-whole
+returns-in_err-show_line-clause-whole g c = λ t. let p = err_from_is_err_and c.from_residual-in_err-show_line.result c.from_residual-in_err-show_line.ensures.1 in rw p.1 tt
+
+pub returns-in_err-show_line-clause-sound : goal.returns-in_err-show_line-clause-sound
+returns-in_err-show_line-clause-sound g c = let p = err_from_is_err_and c.from_residual-in_err-show_line.result c.from_residual-in_err-show_line.ensures.1 in rw p.1 tt
+
+pub next_line-requires : goal.next_line-requires
+next_line-requires g c = subst (λ (k : Contents). g.L.ReplyLines.ready c.loop-given.lines k) (sym c.loop-given.invariant.reads_only.contents) (c.loop-given.invariant.ready (contents_of (g.F.Flash.state c.args.flash.now)) c.requires.ready)
