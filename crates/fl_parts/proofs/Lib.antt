@@ -85,4 +85,8 @@ pub mod InTurn
 pub mod IndexMounted
 pub mod SealEnds
 pub mod BlobRests
-pub mod KeptSteps
+mod KeptSteps
+mod KeptParts
+mod PagesSeen
+mod IndexTaken
+mod IndexRounds

@@ -133,6 +133,12 @@ ring-stays (Some old) (Some new) f first plan table same still h = ring-same old
 pub index-lies-read : (bitmaps : BitmapIndex) (f g : FlashState) (n : ℕ) → OnlyReads f n g → IndexLies bitmaps f → IndexLies bitmaps g
 index-lies-read bitmaps f g n reads h = lies-goes (Some bitmaps) f g reads.goes h
 
+-- how many entries an index page holds stays
+pub per-same : (old new : BitmapIndex) → IsSamePlan old new → per_page new ≡ per_page old
+per-same old new same =
+    let form : form_in new ≡ form_in old = ap (λ bits. record { width = bits / 8; full = new.full }) same.bits ∙ ap (λ full. record { width = old.bits / 8; full = full }) same.full in
+    ap (λ (e : EntryForm). (new.geometry.page - 24) / form_len e) form ∙ ap (λ (x : Geometry). (x.page - 24) / len_in old) same.geometry
+
 -- what a mount comes to stays what it comes to
 pub come-still : (t : Come) (layout : RowLayout) (most : ℕ) (old new : BitmapIndex) (ring : Ring) (f g : FlashState) (n : ℕ) → IsSamePlan old new → oldest_in new ≡ oldest_in old → next_in new ≡ next_in old → OnlyReads f n g → IsComeTo t layout most old ring f → IsComeTo t layout most new ring g
 come-still t layout most old new ring f g n same oldest next reads is = record {
@@ -140,7 +146,7 @@ come-still t layout most old new ring f g n same oldest next reads is = record {
   most_is = is.most_is;
   form = is.form ∙ sym form;
   full_is = is.full_is;
-  per = is.per ∙ sym per;
+  per = is.per ∙ sym (per-same old new same);
   index_oldest = is.index_oldest ∙ sym oldest;
   index_pages = is.index_pages ∙ omega (arith, oldest, next);
   index = λ number. is.index number ∙ sym (ap (λ (s : Shape). page_at g (rings.place s number)) shape ∙ same_page f g n (place_in old number) reads);
@@ -148,9 +154,6 @@ come-still t layout most old new ring f g n same oldest next reads is = record {
   where
     form : form_in new ≡ form_in old
     form = ap (λ bits. record { width = bits / 8; full = new.full }) same.bits ∙ ap (λ full. record { width = old.bits / 8; full = full }) same.full
-
-    per : per_page new ≡ per_page old
-    per = ap (λ (e : EntryForm). (new.geometry.page - 24) / form_len e) form ∙ ap (λ (x : Geometry). (x.page - 24) / len_in old) same.geometry
 
     shape : ring_shape new ≡ ring_shape old
     shape = ap (λ p. shape_at p new.geometry) same.place ∙ ap (shape_at old.place) same.geometry

@@ -30,15 +30,6 @@ spared-reads a b m old new reads few = record { some = m; reads = reads; few = o
 pub spared-within : (a b : FlashState) (n m : ℕ) (known : Known) → n ≤ m → ReadsBut a n known b → ReadsBut a m known b
 spared-within a b n m known le x = record { some = x.some; reads = x.reads; few = omega (arith, x.few, le) }
 
--- All kept pages were read: those that index pages list and those of the index, then those that none lists, and then the one that
--- waited.
-module _ (a b c : FlashState) (pages low from next : ℕ) (known later : Known) (spared : ReadsBut a (pages + (from - low)) known b) (reads : OnlyReads b (next - from) c) (above : low ≤ from) (below : from ≤ next) where
-  pub reads-unlisted : OnlyReads a (pages + (next - low)) c
-  reads-unlisted = fewer-reads a c _ _ (omega (arith, spared.few, above, below)) (more_reads a b c _ _ spared.reads reads)
-
-  pub reads-newest : (d : FlashState) → is_waiting later.newest ≤ is_waiting known.newest → OnlyReads c (is_waiting later.newest) d → OnlyReads a (pages + (next - low)) d
-  reads-newest d few last = fewer-reads a d _ _ (omega (arith, spared.few, few, above, below)) (more_reads a c d _ _ (more_reads a b c _ _ spared.reads reads) last)
-
 -- two facts of a value
 pub ok-two : {T E : Type 0} (r : Result T E) (P Q R : T → Type 0) → ((x : T) → P x → Q x → R x) → IfOk r P → IfOk r Q → IfOk r R
 ok-two (Ok x) P Q R f p q = f x p q

@@ -10,6 +10,7 @@ pub mod ByEntries
 pub mod Coming
 pub mod Knowing
 pub mod KeptRead
+pub mod KeptSteps
 pub mod IndexMount
 pub mod MountLimits
 pub mod Entries

@@ -61,7 +61,7 @@ pub fn mount_bitmaps<F: Flash>(
 /// The number of the first data page whose entry waits after a mount: those wait that the index doesn't list, as many of the
 /// last ones as an index page holds. The index lists none from page `end` on, and `oldest` and `next` are the numbers of the
 /// oldest data page that is kept and of the next one. Without an index none waits, from `next` on.
-pub fn first_to_wait(bitmaps: &Option<BitmapIndex>, end: u32, oldest: u32, next: u32) -> u32
+pub(crate) fn first_to_wait(bitmaps: &Option<BitmapIndex>, end: u32, oldest: u32, next: u32) -> u32
     requires end { end ≤ next }
     requires oldest { oldest ≤ next }
     ensures { result ≡ first_to_wait bitmaps.now end oldest next }
@@ -73,7 +73,7 @@ pub fn first_to_wait(bitmaps: &Option<BitmapIndex>, end: u32, oldest: u32, next:
 }
 
 /// The entry of the data page with this number is the next to wait, and the first. A table without an index stays as it is.
-pub fn restart(bitmaps: &mut Option<BitmapIndex>, first: u32)
+pub(crate) fn restart(bitmaps: &mut Option<BitmapIndex>, first: u32)
     requires idle { AreIdle bitmaps.old }
     ensures same { AreSamePlan bitmaps.old bitmaps.new }
     ensures still { AreSameRing bitmaps.old bitmaps.new }

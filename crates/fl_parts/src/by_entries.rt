@@ -16,11 +16,16 @@ ghost use Rattle.fl_ring.specs.Ring.{room};
 ghost use Rattle.fl_schema.specs.Schema.{layout_of};
 ghost use Rattle.fl_parts.specs.Bitmaps.{AreIdle, AreRunning, AreSamePlan, AreStillFound, LieOn, StandForRing};
 ghost use Rattle.fl_parts.specs.ByEntries.{Come, entry, end_before, page_check, seen_before, unlisted_of, mount_fault};
-ghost use Rattle.fl_parts.specs.Faults.{IfFlash, IfPage, is_of_pages};
+ghost use Rattle.fl_parts.specs.Faults.{IfPage, is_refused};
+ghost use Rattle.fl_parts.specs.KeptRead.{LeavesKept};
+ghost use Rattle.fl_parts.specs.KeptSteps.{AreFew, AreNextPages, FailsReading, HasCome, HasComeBy, IsNextIndexPage, IsNextPage, IsRefusedFirst, Keeps, KeepsKnown, KnowsListed, KnowsTaken, LeavesIndex, LeavesRing, LoadsFull, LoadsPages, MayRead, TakesPage};
 ghost use Rattle.fl_parts.specs.Coming.{AreRowsOf, AreRemembered, ComesTo, FirstsKnown, IsComeTo, IsFineListing, AreLoaded, AreNext, AreListedBefore, StandFound, index_pages_of, loaded_full};
 ghost use Rattle.fl_parts.specs.declared.mount_fault.MountFault.{MountFault};
 ghost use Rattle.fl_parts.specs.Knowing.{left, KnowsWith, IsWithin, ReadsBut, is_waiting};
 ghost use Rattle.fl_index.specs.Finding as finding;
+ghost use Rattle.fl_index.specs.Loading.{HoldsEntriesOf};
+ghost use Rattle.fl_flash.specs.Flash.{FlashState};
+ghost use Rattle.fl_index.specs.declared.index.BitmapIndex.{BitmapIndex};
 ghost use Rattle.fl_index.specs.Page.{first_on, full_view};
 
 use crate::MountFault;
@@ -77,28 +82,18 @@ fn see_one<F: Flash, const KNOTS: usize, const SLOTS: usize>(
     flash: &mut F,
     buf: &mut PageBuf,
 ) -> Result<(), MountFault>
-    requires row { 1 ≤ layout_len (layout_of schema.now) }
-    requires lies { LiesOn ring.now (F.state flash.old) }
-    requires room { length buf.old.bytes ≡ (F.state flash.old).geometry.page }
-    requires none { buf.old.holds ≡ None }
-    requires some { 1 ≤ length counts.old }
-    requires few { known.old.rows + 131072 < 2 ^ 64 }
-    requires few_voids { known.old.voids + 1 < 2 ^ 32 }
-    ensures knows { IsTrue (F.state flash.old).media.tells → (error : ℕ) (t : Come) (k n : ℕ) → AreRowsOf t (layout_of schema.now) ring.now (F.state flash.old) → number ≡ t.oldest + n → n < t.pages → t.pages ≤ length counts.old →
-        entry t number ≡ option_map full_view (loaded_full bitmaps.now number) → left t k n ≡ first_of (page_check t n) (left t k (suc n)) → KnowsWith error t k n known.old counts.old index.old →
-        OnOk result (KnowsWith error t k (suc n) known.new counts.new index.new) × IfErr result (IfPage (λ e. mount_fault t ≡ Some e)) }
-    ensures few_reads { IsTrue (F.state flash.old).media.tells → (t : Come) → entry t number ≡ option_map full_view (loaded_full bitmaps.now number) →
-        (F.state flash.new).work.reads ≤ (F.state flash.old).work.reads + (if is_none (entry t number) then 1 else 0) }
-    ensures within { (oldest n : ℕ) → IsWithin oldest n known.old → number ≡ oldest + n → IsWithin oldest (suc n) known.new }
-    ensures size { length counts.new ≡ length counts.old }
-    ensures error { error_in index.new ≡ error_in index.old }
+    requires may { MayRead (layout_of schema.now) ring.now (F.state flash.old) counts.old buf.old }
+    requires few { AreFew known.old }
+    requires come { HasCome ring.now number known.old }
+    requires before { number < next_of ring.now }
+    ensures knows { IsTrue (F.state flash.old).media.tells → (error : ℕ) (t : Come) (k n : ℕ) → AreRowsOf t (layout_of schema.now) ring.now (F.state flash.old) → IsNextPage t k n number counts.old →
+        entry t number ≡ option_map full_view (loaded_full bitmaps.now number) → KnowsWith error t k n known.old counts.old index.old →
+        OnOk result (KnowsWith error t k (suc n) known.new counts.new index.new) × IfErr result (IfPage (λ e. mount_fault t ≡ Some e))
+        × ((F.state flash.new).work.reads ≤ (F.state flash.old).work.reads + (if is_none (entry t number) then 1 else 0)) }
+    ensures come { OnOk result (HasComeBy ring.now (number + 1) 1 (F.state flash.old) known.old known.new (F.state flash.new)) }
     ensures reads { OnlyReads (F.state flash.old) 1 (F.state flash.new) }
-    ensures spared { OnOk result (ReadsBut (F.state flash.old) (1 + is_waiting known.old.newest) known.new (F.state flash.new)) }
-    ensures room { length buf.new.bytes ≡ length buf.old.bytes }
-    ensures none { buf.new.holds ≡ None }
-    ensures fails { IfErr result (IfFlash (λ e. ReadFails (F.state flash.old) e (F.state flash.new))) }
-    ensures only { IfErr result (λ e. is_of_pages e ≡ true) }
-    ensures power { OnOk result ((F.state flash.old).is_on ≡ true → (F.state flash.new).is_on ≡ true) }
+    ensures keeps { Keeps counts.old index.old buf.old counts.new index.new buf.new }
+    ensures fails { IfErr result (λ e. FailsReading (F.state flash.old) e (F.state flash.new)) }
 {
     if let Some(full) = listed(bitmaps, number) {
         return see_entry(known, counts, index, number, full);
@@ -122,30 +117,16 @@ fn see_pages<F: Flash, const KNOTS: usize, const SLOTS: usize>(
     flash: &mut F,
     buf: &mut PageBuf,
 ) -> Result<u32, MountFault>
-    requires row { 1 ≤ layout_len (layout_of schema.now) }
-    requires lies { LiesOn ring.now (F.state flash.old) }
-    requires room { length buf.old.bytes ≡ (F.state flash.old).geometry.page }
-    requires none { buf.old.holds ≡ None }
-    requires counts { length counts.old ≡ room (shape_of ring.now) }
-    requires some { 1 ≤ length counts.old }
-    requires from { (oldest_of ring.now ≤ from) × (from ≤ next_of ring.now) }
-    requires within { IsWithin (oldest_of ring.now) (from - oldest_of ring.now) known.old }
+    requires may { MayRead (layout_of schema.now) ring.now (F.state flash.old) counts.old buf.old }
+    requires come { HasCome ring.now from known.old }
     ensures to { IfOk result (λ to. to ≡ max from (min end (next_of ring.now))) }
-    ensures knows { IsTrue (F.state flash.old).media.tells → next_of ring.now - oldest_of ring.now ≤ length counts.old → (error : ℕ) (t : Come) (k : ℕ) → AreRowsOf t (layout_of schema.now) ring.now (F.state flash.old) → AreLoaded t from end bitmaps.now → AreNext t k from end →
-        KnowsWith error t k (from - t.oldest) known.old counts.old index.old →
-        IfOk result (λ to. KnowsWith error t k (to - t.oldest) known.new counts.new index.new) × IfErr result (IfPage (λ e. mount_fault t ≡ Some e)) }
-    ensures few_reads { IsTrue (F.state flash.old).media.tells → (t : Come) → AreRowsOf t (layout_of schema.now) ring.now (F.state flash.old) → AreLoaded t from end bitmaps.now →
-        (F.state flash.new).work.reads + unlisted_of t t.oldest (from - t.oldest) ≤ (F.state flash.old).work.reads + unlisted_of t t.oldest (max from (min end (next_of ring.now)) - t.oldest) }
-    ensures within { IfOk result (λ to. IsWithin (oldest_of ring.now) (to - oldest_of ring.now) known.new) }
-    ensures size { length counts.new ≡ length counts.old }
-    ensures error { error_in index.new ≡ error_in index.old }
+    ensures knows { (error : ℕ) (t : Come) (k : ℕ) → AreNextPages t k from end (layout_of schema.now) ring.now (F.state flash.old) bitmaps.now counts.old → KnowsWith error t k (from - t.oldest) known.old counts.old index.old →
+        IfOk result (λ to. KnowsWith error t k (to - t.oldest) known.new counts.new index.new) × IfErr result (IfPage (λ e. mount_fault t ≡ Some e))
+        × ((F.state flash.new).work.reads + unlisted_of t t.oldest (from - t.oldest) ≤ (F.state flash.old).work.reads + unlisted_of t t.oldest (max from (min end (next_of ring.now)) - t.oldest)) }
+    ensures come { IfOk result (λ to. HasComeBy ring.now to (to - from) (F.state flash.old) known.old known.new (F.state flash.new)) }
     ensures reads { OnlyReads (F.state flash.old) (max from (min end (next_of ring.now)) - from) (F.state flash.new) }
-    ensures spared { IfOk result (λ to. ReadsBut (F.state flash.old) (to - from + is_waiting known.old.newest) known.new (F.state flash.new)) }
-    ensures room { length buf.new.bytes ≡ length buf.old.bytes }
-    ensures none { buf.new.holds ≡ None }
-    ensures fails { IfErr result (IfFlash (λ e. ReadFails (F.state flash.old) e (F.state flash.new))) }
-    ensures only { IfErr result (λ e. is_of_pages e ≡ true) }
-    ensures power { OnOk result ((F.state flash.old).is_on ≡ true → (F.state flash.new).is_on ≡ true) }
+    ensures keeps { Keeps counts.old index.old buf.old counts.new index.new buf.new }
+    ensures fails { IfErr result (λ e. FailsReading (F.state flash.old) e (F.state flash.new)) }
 {
     let to = from.max(end.min(u64::from(ring.next_number())) as u32);
     for number in from..to {
@@ -154,6 +135,61 @@ fn see_pages<F: Flash, const KNOTS: usize, const SLOTS: usize>(
         )?;
     }
     Ok(to)
+}
+
+/// An index page is bad that says to list data pages from `first` on. It answers the end of those that it or one before it says
+/// to list.
+fn end_after_bad(known: &mut Known, end: u64, first: u32, bad: BadPage) -> Result<u64, MountFault>
+    ensures within { (oldest n : ℕ) → IsWithin oldest n known.old → IsWithin oldest n known.new }
+    ensures waits { IfOk result (λ after. (after ≡ max end (first + bad.count)) × (known.new ≡ record known.old { fault = first_of known.old.fault (Some bad) }) × (known.old.newest ≡ None → ⊥)) }
+    ensures refused { IfErr result (λ e. (known.old.newest ≡ None) × (e ≡ MountFault.BadPage bad)) }
+{
+    blame(known, bad)?;
+    Ok(end.max(u64::from(first) + u64::from(bad.count)))
+}
+
+/// Checks a kept index page that was loaded and lists data pages from `first` on, where those before it list none from `end` on.
+/// It answers the end of the data pages that it or one before it says to list.
+fn take_listing<const KNOTS: usize, const SLOTS: usize>(
+    ring: &Ring,
+    bitmaps: &mut BitmapIndex,
+    page: u32,
+    first: u32,
+    end: u64,
+    limit: u32,
+    known: &mut Known,
+    counts: &mut [u16],
+    index: &mut KeyIndex<KNOTS, SLOTS>,
+) -> Result<u64, MountFault>
+    requires order { oldest_of ring.now ≤ next_of ring.now }
+    requires some { 1 ≤ length counts.old }
+    requires few { known.old.rows + 65536 < 2 ^ 64 }
+    ensures knows { (error : ℕ) (layout : RowLayout) (t : Come) (k n : ℕ) (f : FlashState) (before : BitmapIndex) → IsNextIndexPage t k n page end layout limit ring.now f before counts.old →
+        IsSamePlan before bitmaps.old → HoldsEntriesOf before page (finding.pages_of before f page) first bitmaps.old → KnowsWith error t k n known.old counts.old index.old →
+        IfOk result (λ after. KnowsTaken error t k n end after known.new counts.new index.new bitmaps.new) × IfErr result (λ e. mount_fault t ≡ Some e) }
+    ensures known { OnOk result (KeepsKnown known.old known.new) }
+    ensures leaves { LeavesRing bitmaps.old bitmaps.new }
+    ensures size { length counts.new ≡ length counts.old }
+    ensures error { error_in index.new ≡ error_in index.old }
+    ensures only { IfErr result (λ e. is_refused e ≡ true) }
+{
+    let capacity = bitmaps.capacity();
+    if u64::from(first) < end {
+        bitmaps.unload();
+        let bad = BadPage {
+            wanted: page,
+            found: page,
+            count: capacity,
+        };
+        return end_after_bad(known, end, first, bad);
+    }
+    let after = u64::from(first) + u64::from(capacity);
+    let to = after.min(u64::from(ring.next_number())) as u32;
+    if let Some(fault) = bad_entry(bitmaps, first.max(ring.oldest()), to, limit) {
+        settle(known, counts, index)?;
+        return Err(fault);
+    }
+    Ok(after)
 }
 
 /// Reads a kept index page and checks it, where those before it list no data page from `end` on. It answers the end of the data
@@ -176,54 +212,20 @@ fn take_index_page<F: Flash, const KNOTS: usize, const SLOTS: usize>(
     requires order { oldest_of ring.now ≤ next_of ring.now }
     requires some { 1 ≤ length counts.old }
     requires few { known.old.rows + 65536 < 2 ^ 64 }
-    ensures knows { IsTrue (F.state flash.old).media.tells → (error : ℕ) (layout : RowLayout) (t : Come) (k n : ℕ) → IsComeTo t layout limit bitmaps.old ring.now (F.state flash.old) → page ≡ t.index_oldest + k → k < t.index_pages →
-        end ≡ end_before t k → n ≡ seen_before t k → n ≤ t.pages → t.pages ≤ length counts.old → KnowsWith error t k n known.old counts.old index.old →
-        IfOk result (λ after. (after ≡ end_before t (suc k)) × KnowsWith error t (suc k) n known.new counts.new index.new × AreLoaded t end after bitmaps.new)
-        × IfErr result (IfPage (λ e. mount_fault t ≡ Some e)) }
-    ensures remembers { OnOk result (IsTrue (F.state flash.old).media.tells → IsFineListing bitmaps.old (F.state flash.old) page → memory.first_in bitmaps.new page ≡ first_on (finding.pages_of bitmaps.old (F.state flash.old) page)) }
-    ensures others { (n : ℕ) → (memory.place_in bitmaps.old n ≡ memory.place_in bitmaps.old page → ⊥) → memory.first_in bitmaps.new n ≡ memory.first_in bitmaps.old n }
-    ensures within { (oldest n : ℕ) → IsWithin oldest n known.old → OnOk result (IsWithin oldest n known.new) }
-    ensures size { length counts.new ≡ length counts.old }
-    ensures error { error_in index.new ≡ error_in index.old }
-    ensures same { IsSamePlan bitmaps.old bitmaps.new }
-    ensures ring { (is_running bitmaps.new ≡ is_running bitmaps.old) × (memory.oldest_in bitmaps.new ≡ memory.oldest_in bitmaps.old) × (memory.next_in bitmaps.new ≡ memory.next_in bitmaps.old) }
-    ensures stands { (first : ℕ) → (plan : Plan) → (table : model.Table) → IsTrue (F.state flash.old).media.tells → StandsBelow page bitmaps.old (F.state flash.old) first plan table
-        → OnOk result (StandsBelow (page + 1) bitmaps.new (F.state flash.new) first plan table) }
-    ensures lies { IndexLies bitmaps.new (F.state flash.new) }
-    ensures reads { OnlyReads (F.state flash.old) 1 (F.state flash.new) }
-    ensures newest { OnOk result (is_waiting known.new.newest ≤ is_waiting known.old.newest) }
-    ensures room { length buf.new.bytes ≡ length buf.old.bytes }
-    ensures none { buf.new.holds ≡ None }
-    ensures fails { IfErr result (IfFlash (λ e. ReadFails (F.state flash.old) e (F.state flash.new))) }
-    ensures only { IfErr result (λ e. is_of_pages e ≡ true) }
-    ensures power { OnOk result ((F.state flash.new).is_on ≡ true) }
+    ensures knows { IsTrue (F.state flash.old).media.tells → (error : ℕ) (layout : RowLayout) (t : Come) (k n : ℕ) → IsNextIndexPage t k n page end layout limit ring.now (F.state flash.old) bitmaps.old counts.old → KnowsWith error t k n known.old counts.old index.old →
+        IfOk result (λ after. KnowsTaken error t k n end after known.new counts.new index.new bitmaps.new) × IfErr result (IfPage (λ e. mount_fault t ≡ Some e)) }
+    ensures taken { OnOk result (TakesPage page bitmaps.old (F.state flash.old) known.old bitmaps.new known.new (F.state flash.new)) }
+    ensures leaves { LeavesIndex bitmaps.old (F.state flash.old) 1 bitmaps.new (F.state flash.new) }
+    ensures keeps { Keeps counts.old index.old buf.old counts.new index.new buf.new }
+    ensures fails { IfErr result (λ e. FailsReading (F.state flash.old) e (F.state flash.new)) }
 {
-    let capacity = bitmaps.capacity();
-    let first = match bitmaps.load(page, flash, buf)? {
-        Loaded::Nothing => return Ok(end),
-        Loaded::Bad { first, bad } => {
-            blame(known, bad)?;
-            return Ok(end.max(u64::from(first) + u64::from(bad.count)));
-        }
-        Loaded::Listing { first } => first,
-    };
-    let after = u64::from(first) + u64::from(capacity);
-    if u64::from(first) < end {
-        bitmaps.unload();
-        let bad = BadPage {
-            wanted: page,
-            found: page,
-            count: capacity,
-        };
-        blame(known, bad)?;
-        return Ok(end.max(after));
+    match bitmaps.load(page, flash, buf)? {
+        Loaded::Nothing => Ok(end),
+        Loaded::Bad { first, bad } => end_after_bad(known, end, first, bad),
+        Loaded::Listing { first } => take_listing(
+            ring, bitmaps, page, first, end, limit, known, counts, index,
+        ),
     }
-    let to = after.min(u64::from(ring.next_number())) as u32;
-    if let Some(fault) = bad_entry(bitmaps, first.max(ring.oldest()), to, limit) {
-        settle(known, counts, index)?;
-        return Err(fault);
-    }
-    Ok(after)
 }
 
 /// Reads the kept index pages, from the oldest on, each as soon as the data pages came that those before it list. It answers the
@@ -239,39 +241,17 @@ fn see_listed<F: Flash, const KNOTS: usize, const SLOTS: usize>(
     flash: &mut F,
     buf: &mut PageBuf,
 ) -> Result<u32, MountFault>
-    requires row { 1 ≤ layout_len (layout_of schema.now) }
-    requires lies { LiesOn ring.now (F.state flash.old) }
+    requires may { MayRead (layout_of schema.now) ring.now (F.state flash.old) counts.old buf.old }
     requires index_lies { IndexLies bitmaps.old (F.state flash.old) }
-    requires running { is_running bitmaps.old ≡ true }
-    requires room { length buf.old.bytes ≡ (F.state flash.old).geometry.page }
-    requires none { buf.old.holds ≡ None }
-    requires counts { length counts.old ≡ room (shape_of ring.now) }
-    requires some { 1 ≤ length counts.old }
-    requires within { IsWithin (oldest_of ring.now) 0 known.old }
+    requires come { HasCome ring.now (oldest_of ring.now) known.old }
     ensures knows { IsTrue (F.state flash.old).media.tells → next_of ring.now - oldest_of ring.now ≤ length counts.old → (error : ℕ) (t : Come) → IsComeTo t (layout_of schema.now) limit bitmaps.old ring.now (F.state flash.old) → KnowsWith error t 0 0 known.old counts.old index.old →
-        IfOk result (λ number. KnowsWith error t t.index_pages (number - t.oldest) known.new counts.new index.new) × IfErr result (IfPage (λ e. mount_fault t ≡ Some e)) }
-    ensures few_reads { IsTrue (F.state flash.old).media.tells → next_of ring.now - oldest_of ring.now ≤ length counts.old → (error : ℕ) (t : Come) → IsComeTo t (layout_of schema.now) limit bitmaps.old ring.now (F.state flash.old) → KnowsWith error t 0 0 known.old counts.old index.old →
-        IfOk result (λ number. (F.state flash.new).work.reads ≤ (F.state flash.old).work.reads + t.index_pages + unlisted_of t t.oldest (number - t.oldest))
-        × ((F.state flash.new).work.reads ≤ (F.state flash.old).work.reads + t.index_pages + unlisted_of t t.oldest t.pages) }
-    ensures unlisted { IsTrue (F.state flash.old).media.tells → next_of ring.now - oldest_of ring.now ≤ length counts.old → (error : ℕ) (t : Come) → IsComeTo t (layout_of schema.now) limit bitmaps.old ring.now (F.state flash.old) → KnowsWith error t 0 0 known.old counts.old index.old →
-        IfOk result (λ number. AreListedBefore t number) }
-    ensures stands { (first : ℕ) → (plan : Plan) → (table : model.Table) → IsTrue (F.state flash.old).media.tells → StandsBelow (memory.oldest_in bitmaps.old) bitmaps.old (F.state flash.old) first plan table
-        → OnOk result (StandsBelow (memory.next_in bitmaps.old) bitmaps.new (F.state flash.new) first plan table) }
-    ensures remembers { OnOk result (IsTrue (F.state flash.old).media.tells → AreRemembered bitmaps.old (F.state flash.old) (memory.oldest_in bitmaps.old) (memory.next_in bitmaps.old) bitmaps.new) }
-    ensures end { IfOk result (λ number. (oldest_of ring.now ≤ number) × (number ≤ next_of ring.now)) }
-    ensures within { IfOk result (λ number. IsWithin (oldest_of ring.now) (number - oldest_of ring.now) known.new) }
-    ensures size { length counts.new ≡ length counts.old }
-    ensures error { error_in index.new ≡ error_in index.old }
-    ensures same { IsSamePlan bitmaps.old bitmaps.new }
-    ensures ring { (is_running bitmaps.new ≡ is_running bitmaps.old) × (memory.oldest_in bitmaps.new ≡ memory.oldest_in bitmaps.old) × (memory.next_in bitmaps.new ≡ memory.next_in bitmaps.old) }
-    ensures index_lies { IndexLies bitmaps.new (F.state flash.new) }
-    ensures reads { OnlyReads (F.state flash.old) ((memory.next_in bitmaps.old - memory.oldest_in bitmaps.old) + (next_of ring.now - oldest_of ring.now)) (F.state flash.new) }
-    ensures spared { IfOk result (λ number. ReadsBut (F.state flash.old) ((memory.next_in bitmaps.old - memory.oldest_in bitmaps.old) + (number - oldest_of ring.now) + is_waiting known.old.newest) known.new (F.state flash.new)) }
-    ensures room { length buf.new.bytes ≡ length buf.old.bytes }
-    ensures none { buf.new.holds ≡ None }
-    ensures fails { IfErr result (IfFlash (λ e. ReadFails (F.state flash.old) e (F.state flash.new))) }
-    ensures only { IfErr result (λ e. is_of_pages e ≡ true) }
-    ensures power { OnOk result ((F.state flash.old).is_on ≡ true → (F.state flash.new).is_on ≡ true) }
+        IfOk result (λ number. KnowsListed error t number (F.state flash.old).work.reads (F.state flash.new).work.reads known.new counts.new index.new)
+        × IfErr result (λ e. IsRefusedFirst t (F.state flash.old).work.reads (F.state flash.new).work.reads e) }
+    ensures come { IfOk result (λ number. HasComeBy ring.now number (memory.next_in bitmaps.old - memory.oldest_in bitmaps.old + (number - oldest_of ring.now)) (F.state flash.old) known.old known.new (F.state flash.new)) }
+    ensures index { OnOk result (LoadsPages bitmaps.old (F.state flash.old) bitmaps.new (F.state flash.new)) }
+    ensures leaves { LeavesIndex bitmaps.old (F.state flash.old) (memory.next_in bitmaps.old - memory.oldest_in bitmaps.old + (next_of ring.now - oldest_of ring.now)) bitmaps.new (F.state flash.new) }
+    ensures keeps { Keeps counts.old index.old buf.old counts.new index.new buf.new }
+    ensures fails { IfErr result (λ e. FailsReading (F.state flash.old) e (F.state flash.new)) }
 {
     let mut end: u64 = 0;
     let mut number = ring.oldest();
@@ -296,7 +276,7 @@ fn see_listed<F: Flash, const KNOTS: usize, const SLOTS: usize>(
 /// # Errors
 ///
 /// `Flash` where a read fails, and else the first fault of the pages that came: `BadPage`, `BadKeys` or `BadEntry`.
-pub fn read_listed<F: Flash, const KNOTS: usize, const SLOTS: usize>(
+pub(crate) fn read_listed<F: Flash, const KNOTS: usize, const SLOTS: usize>(
     schema: &Schema<8>,
     ring: &Ring,
     bitmaps: &mut Option<BitmapIndex>,
@@ -307,42 +287,19 @@ pub fn read_listed<F: Flash, const KNOTS: usize, const SLOTS: usize>(
     flash: &mut F,
     buf: &mut PageBuf,
 ) -> Result<u32, MountFault>
-    requires row { 1 ≤ layout_len (layout_of schema.now) }
-    requires lies { LiesOn ring.now (F.state flash.old) }
+    requires may { MayRead (layout_of schema.now) ring.now (F.state flash.old) counts.old buf.old }
     requires bitmaps_lie { LieOn bitmaps.old (F.state flash.old) }
     requires running { AreRunning bitmaps.old }
     requires idle { AreIdle bitmaps.old }
-    requires room { length buf.old.bytes ≡ (F.state flash.old).geometry.page }
-    requires none { buf.old.holds ≡ None }
-    requires counts { length counts.old ≡ room (shape_of ring.now) }
-    requires some { 1 ≤ length counts.old }
-    requires within { IsWithin (oldest_of ring.now) 0 known.old }
+    requires come { HasCome ring.now (oldest_of ring.now) known.old }
     ensures knows { IsTrue (F.state flash.old).media.tells → next_of ring.now - oldest_of ring.now ≤ length counts.old → (error : ℕ) (t : Come) → ComesTo t (layout_of schema.now) limit bitmaps.old ring.now (F.state flash.old) → KnowsWith error t 0 0 known.old counts.old index.old →
-        IfOk result (λ from. KnowsWith error t t.index_pages (from - t.oldest) known.new counts.new index.new) × IfErr result (IfPage (λ e. mount_fault t ≡ Some e)) }
-    ensures few_reads { IsTrue (F.state flash.old).media.tells → next_of ring.now - oldest_of ring.now ≤ length counts.old → (error : ℕ) (t : Come) → ComesTo t (layout_of schema.now) limit bitmaps.old ring.now (F.state flash.old) → KnowsWith error t 0 0 known.old counts.old index.old →
-        IfOk result (λ from. (F.state flash.new).work.reads ≤ (F.state flash.old).work.reads + t.index_pages + unlisted_of t t.oldest (from - t.oldest))
-        × ((F.state flash.new).work.reads ≤ (F.state flash.old).work.reads + t.index_pages + unlisted_of t t.oldest t.pages) }
-    ensures unlisted { IsTrue (F.state flash.old).media.tells → next_of ring.now - oldest_of ring.now ≤ length counts.old → (error : ℕ) (t : Come) → ComesTo t (layout_of schema.now) limit bitmaps.old ring.now (F.state flash.old) → KnowsWith error t 0 0 known.old counts.old index.old →
-        IfOk result (λ from. AreListedBefore t from) }
-    ensures stands { (first : ℕ) → (plan : Plan) → (table : model.Table) → IsTrue (F.state flash.old).media.tells → StandFound bitmaps.old (F.state flash.old) first plan table →
-        OnOk result (StandForRing bitmaps.new (F.state flash.new) first plan table) }
-    ensures remembers { OnOk result (IsTrue (F.state flash.old).media.tells → FirstsKnown bitmaps.old (F.state flash.old) bitmaps.new) }
-    ensures end { IfOk result (λ from. (oldest_of ring.now ≤ from) × (from ≤ next_of ring.now)) }
-    ensures within { IfOk result (λ from. IsWithin (oldest_of ring.now) (from - oldest_of ring.now) known.new) }
-    ensures size { length counts.new ≡ length counts.old }
-    ensures error { error_in index.new ≡ error_in index.old }
-    ensures same { AreSamePlan bitmaps.old bitmaps.new }
-    ensures running { AreRunning bitmaps.new }
-    ensures still { AreStillFound bitmaps.old bitmaps.new }
-    ensures idle { OnOk result (AreIdle bitmaps.new) }
-    ensures bitmaps_lie { LieOn bitmaps.new (F.state flash.new) }
-    ensures reads { OnlyReads (F.state flash.old) (index_pages_of bitmaps.old + (next_of ring.now - oldest_of ring.now)) (F.state flash.new) }
-    ensures spared { IfOk result (λ from. ReadsBut (F.state flash.old) (index_pages_of bitmaps.old + (from - oldest_of ring.now) + is_waiting known.old.newest) known.new (F.state flash.new)) }
-    ensures room { length buf.new.bytes ≡ length buf.old.bytes }
-    ensures none { buf.new.holds ≡ None }
-    ensures fails { IfErr result (IfFlash (λ e. ReadFails (F.state flash.old) e (F.state flash.new))) }
-    ensures only { IfErr result (λ e. is_of_pages e ≡ true) }
-    ensures power { OnOk result ((F.state flash.old).is_on ≡ true → (F.state flash.new).is_on ≡ true) }
+        IfOk result (λ from. KnowsListed error t from (F.state flash.old).work.reads (F.state flash.new).work.reads known.new counts.new index.new)
+        × IfErr result (λ e. IsRefusedFirst t (F.state flash.old).work.reads (F.state flash.new).work.reads e) }
+    ensures come { IfOk result (λ from. HasComeBy ring.now from (index_pages_of bitmaps.old + (from - oldest_of ring.now)) (F.state flash.old) known.old known.new (F.state flash.new)) }
+    ensures index { OnOk result (LoadsFull bitmaps.old (F.state flash.old) bitmaps.new (F.state flash.new)) }
+    ensures leaves { LeavesKept bitmaps.old ring.now (F.state flash.old) bitmaps.new (F.state flash.new) }
+    ensures keeps { Keeps counts.old index.old buf.old counts.new index.new buf.new }
+    ensures fails { IfErr result (λ e. FailsReading (F.state flash.old) e (F.state flash.new)) }
 {
     match bitmaps {
         Some(entries) if entries.is_full() => {

@@ -6,6 +6,7 @@ ghost use Rattle.fl_index.specs.Page.{full_view};
 ghost use Rattle.fl_spline.specs.Points.{IsFurther};
 ghost use Rattle.fl_parts.specs.ByEntries.{Come, entry, facts_on, has_rows, page_check, mount_fault};
 ghost use Rattle.fl_parts.specs.Faults.{is_refused};
+ghost use Rattle.fl_parts.specs.KeptSteps.{IsNextPage};
 ghost use Rattle.fl_parts.specs.Knowing.{left, KnowsWith, IsWithin};
 ghost use Rattle.fl_parts.specs.Reading.{rises};
 ghost use Rattle.fl_parts.specs.declared.mount_fault.MountFault.{MountFault};
@@ -174,8 +175,8 @@ pub(crate) fn see_entry<const KNOTS: usize, const SLOTS: usize>(
     ensures error { error_in index.new ≡ error_in index.old }
     ensures within { (oldest n : ℕ) → IsWithin oldest n known.old → number ≡ oldest + n → IsWithin oldest (suc n) known.new }
     ensures only { IfErr result (λ e. is_refused e ≡ true) }
-    ensures knows { (error : ℕ) (t : Come) (k n : ℕ) → KnowsWith error t k n known.old counts.old index.old → n < t.pages → t.pages ≤ length counts.old → number ≡ t.oldest + n → entry t number ≡ Some (full_view full) →
-        left t k n ≡ first_of (page_check t n) (left t k (suc n)) → OnOk result (KnowsWith error t k (suc n) known.new counts.new index.new) × IfErr result (λ e. mount_fault t ≡ Some e) }
+    ensures knows { (error : ℕ) (t : Come) (k n : ℕ) → KnowsWith error t k n known.old counts.old index.old → IsNextPage t k n number counts.old → entry t number ≡ Some (full_view full) →
+        OnOk result (KnowsWith error t k (suc n) known.new counts.new index.new) × IfErr result (λ e. mount_fault t ≡ Some e) }
 {
     if full.count == 0 {
         count_void(known, counts, number, u64::from(full.blob_end));

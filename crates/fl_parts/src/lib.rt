@@ -14,13 +14,11 @@ mod mount_fault;
 mod values;
 
 pub use ahead::Ahead;
-pub use bitmaps::{first_to_wait, make_room, mount_bitmaps, note_entry, restart};
+pub use bitmaps::{make_room, mount_bitmaps, note_entry};
 pub use blob_end::{least_of, reference_end};
 pub use blobs::{mount_within, place, seal_rest};
-pub use by_entries::read_listed;
 pub use kept::read_kept;
 pub use keys::last_key_after;
 pub use known::{Known, Listed, note};
-pub use load::{read_newest, read_pages};
 pub use mount_fault::MountFault;
 pub use values::misfit;

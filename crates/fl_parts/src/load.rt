@@ -13,7 +13,8 @@ ghost use Rattle.fl_ring.specs.Ring.{place, room};
 ghost use Rattle.fl_page.specs.View.{page_of, layout_of_page, count_of, rows_of};
 ghost use Rattle.fl_schema.specs.Schema.{layout_of};
 ghost use Rattle.fl_page.specs.Header.{page_bitmap};
-ghost use Rattle.fl_parts.specs.Faults.{IfFlash, IfPage, is_of_pages, is_refused};
+ghost use Rattle.fl_parts.specs.Faults.{IfPage, is_refused};
+ghost use Rattle.fl_parts.specs.KeptSteps.{AreFew, CountsOne, FailsReading, HasCome, HasRows, IsNextPage, Keeps, LeavesNoted, MayRead, NotesRest};
 ghost use Rattle.fl_parts.specs.Reading.{last_in, keys_fault, IsRead, IsRefused, pages_of, bitmap_on, WaitFor, GatherUpTo, AreGathered};
 ghost use Rattle.fl_parts.specs.Bitmaps.{AreSamePlan, AreSameRing};
 ghost use Rattle.fl_parts.specs.ByEntries.{Come, has_rows, is_committed, page_check, read_fault, mount_fault};
@@ -79,10 +80,8 @@ fn rows_of_view(
     last: Option<u64>,
 ) -> Result<PageRows, MountFault>
     requires { count_of view < 65536 }
-    ensures rows { IfOk result (λ page. (keys_fault number last (rows_of view.entry) ≡ None) × (page.rows ≡ count_of view.entry) × (page.last ≡ last_in last (rows_of view.entry))) }
-    ensures first { IfOk result (λ page. page.first ≡ first_key (rows_of view.entry)) }
-    ensures bitmap { IfOk result (λ page. page.bitmap ≡ bitmap) }
-    ensures blob_end { IfOk result (λ page. page.blob_end ≡ blobs_end 0 (rows_of view.entry)) }
+    ensures page { IfOk result (λ page. (page.rows ≡ count_of view.entry) × (page.first ≡ first_key (rows_of view.entry)) × (page.bitmap ≡ bitmap) × (page.blob_end ≡ blobs_end 0 (rows_of view.entry))) }
+    ensures keys { IfOk result (λ page. (keys_fault number last (rows_of view.entry) ≡ None) × (page.last ≡ last_in last (rows_of view.entry))) }
     ensures fault { IfErr result (λ e. keys_fault number last (rows_of view.entry) ≡ Some e) }
 {
     let last = last_key_after(view, number, last)?;
@@ -114,11 +113,8 @@ fn rows_in(
     requires most { length bytes.now ≤ 4096 }
     requires row { 1 ≤ layout_len (layout_of schema.now) }
     ensures read { IfOk result (λ page. IsRead (layout_of schema.now) number bytes.now last) }
-    ensures rows { IfOk result (λ page. (page.rows ≡ length (rows_on (layout_of schema.now) bytes.now)) × (page.rows < 65536)) }
+    ensures page { IfOk result (HasRows (layout_of schema.now) bytes.now) }
     ensures last { IfOk result (λ page. page.last ≡ last_in last (rows_on (layout_of schema.now) bytes.now)) }
-    ensures first { IfOk result (λ page. page.first ≡ first_key (rows_on (layout_of schema.now) bytes.now)) }
-    ensures bitmap { IfOk result (λ page. page.bitmap ≡ bitmap_on bytes.now) }
-    ensures blob_end { IfOk result (λ page. page.blob_end ≡ blobs_end 0 (rows_on (layout_of schema.now) bytes.now)) }
     ensures fault { IfErr result (λ e. IsRefused (layout_of schema.now) number bytes.now last e) }
 {
     let PageState::Committed = state_of(bytes) else {
@@ -176,18 +172,13 @@ fn see_page<const KNOTS: usize, const SLOTS: usize>(
     requires most { length bytes.now ≤ 4096 }
     requires row { 1 ≤ layout_len (layout_of schema.now) }
     requires some { 1 ≤ length counts.old }
-    requires few { known.old.rows + 131072 < 2 ^ 64 }
-    requires few_voids { known.old.voids + 1 < 2 ^ 32 }
+    requires few { AreFew known.old }
     ensures size { length counts.new ≡ length counts.old }
     ensures error { error_in index.new ≡ error_in index.old }
-    ensures within { (oldest n : ℕ) → IsWithin oldest n known.old → IsWithin oldest (suc n) known.new }
-    ensures waits { OnOk result (is_waiting known.new.newest ≤ is_waiting known.old.newest) }
-    ensures rows { IfOk result (λ page. (page.rows ≡ length (rows_on (layout_of schema.now) bytes.now)) × (page.rows < 65536)) }
-    ensures first { IfOk result (λ page. page.first ≡ first_key (rows_on (layout_of schema.now) bytes.now)) }
-    ensures bitmap { IfOk result (λ page. page.bitmap ≡ bitmap_on bytes.now) }
-    ensures blob_end { IfOk result (λ page. page.blob_end ≡ blobs_end 0 (rows_on (layout_of schema.now) bytes.now)) }
-    ensures knows { (error : ℕ) (t : Come) (k n : ℕ) → KnowsWith error t k n known.old counts.old index.old → n < t.pages → t.pages ≤ length counts.old → number ≡ t.oldest + n → IsUnlisted t (layout_of schema.now) number bytes.now →
-        left t k n ≡ first_of (page_check t n) (left t k (suc n)) → OnOk result (KnowsWith error t k (suc n) known.new counts.new index.new) × IfErr result (λ e. mount_fault t ≡ Some e) }
+    ensures counted { OnOk result (CountsOne known.old known.new) }
+    ensures page { IfOk result (HasRows (layout_of schema.now) bytes.now) }
+    ensures knows { (error : ℕ) (t : Come) (k n : ℕ) → KnowsWith error t k n known.old counts.old index.old → IsNextPage t k n number counts.old → IsUnlisted t (layout_of schema.now) number bytes.now →
+        OnOk result (KnowsWith error t k (suc n) known.new counts.new index.new) × IfErr result (λ e. mount_fault t ≡ Some e) }
     ensures only { IfErr result (λ e. is_refused e ≡ true) }
 {
     make_way(bytes, known, counts, index)?;
@@ -214,26 +205,16 @@ pub(crate) fn read_page<F: Flash, const KNOTS: usize, const SLOTS: usize>(
     requires exists { at < pages (F.state flash.old) }
     requires room { length buf.old.bytes ≡ (F.state flash.old).geometry.page }
     requires some { 1 ≤ length counts.old }
-    requires few { known.old.rows + 131072 < 2 ^ 64 }
-    requires few_voids { known.old.voids + 1 < 2 ^ 32 }
+    requires few { AreFew known.old }
     ensures reads { OnlyReads (F.state flash.old) 1 (F.state flash.new) }
-    ensures room { length buf.new.bytes ≡ length buf.old.bytes }
-    ensures none { buf.new.holds ≡ None }
-    ensures size { length counts.new ≡ length counts.old }
-    ensures error { error_in index.new ≡ error_in index.old }
-    ensures within { (oldest n : ℕ) → IsWithin oldest n known.old → IsWithin oldest (suc n) known.new }
-    ensures waits { OnOk result (is_waiting known.new.newest ≤ is_waiting known.old.newest) }
-    ensures few { IfOk result (λ page. page.rows < 65536) }
-    ensures rows { IfOk result (λ page. IsTrue (F.state flash.old).media.tells → page.rows ≡ length (rows_on (layout_of schema.now) (page_at (F.state flash.old) at))) }
-    ensures first { IfOk result (λ page. IsTrue (F.state flash.old).media.tells → page.first ≡ first_key (rows_on (layout_of schema.now) (page_at (F.state flash.old) at))) }
-    ensures bitmap { IfOk result (λ page. IsTrue (F.state flash.old).media.tells → page.bitmap ≡ bitmap_on (page_at (F.state flash.old) at)) }
-    ensures blob_end { IfOk result (λ page. IsTrue (F.state flash.old).media.tells → page.blob_end ≡ blobs_end 0 (rows_on (layout_of schema.now) (page_at (F.state flash.old) at))) }
-    ensures knows { IsTrue (F.state flash.old).media.tells → (error : ℕ) (t : Come) (k n : ℕ) → KnowsWith error t k n known.old counts.old index.old → n < t.pages → t.pages ≤ length counts.old → number ≡ t.oldest + n →
-        IsUnlisted t (layout_of schema.now) number (page_at (F.state flash.old) at) → left t k n ≡ first_of (page_check t n) (left t k (suc n)) →
+    ensures keeps { Keeps counts.old index.old buf.old counts.new index.new buf.new }
+    ensures counted { OnOk result (CountsOne known.old known.new) }
+    ensures page { IfOk result (HasRows (layout_of schema.now) buf.new.bytes) }
+    ensures bytes { OnOk result (IsTrue (F.state flash.old).media.tells → buf.new.bytes ≡ page_at (F.state flash.old) at) }
+    ensures knows { IsTrue (F.state flash.old).media.tells → (error : ℕ) (t : Come) (k n : ℕ) → KnowsWith error t k n known.old counts.old index.old → IsNextPage t k n number counts.old →
+        IsUnlisted t (layout_of schema.now) number (page_at (F.state flash.old) at) →
         OnOk result (KnowsWith error t k (suc n) known.new counts.new index.new) × IfErr result (IfPage (λ e. mount_fault t ≡ Some e)) }
-    ensures fails { IfErr result (IfFlash (λ e. ReadFails (F.state flash.old) e (F.state flash.new))) }
-    ensures only { IfErr result (λ e. is_of_pages e ≡ true) }
-    ensures power { OnOk result ((F.state flash.new).is_on ≡ true) }
+    ensures fails { IfErr result (λ e. FailsReading (F.state flash.old) e (F.state flash.new)) }
 {
     flash.read(at, buf)?;
     let page = see_page(schema, buf.bytes(), number, known, counts, index);
@@ -247,7 +228,7 @@ pub(crate) fn read_page<F: Flash, const KNOTS: usize, const SLOTS: usize>(
 /// # Errors
 ///
 /// `Flash` where a read fails, and else the first fault of the pages that came: `BadPage` or `BadKeys`.
-pub fn read_pages<F: Flash, const KNOTS: usize, const SLOTS: usize>(
+pub(crate) fn read_pages<F: Flash, const KNOTS: usize, const SLOTS: usize>(
     schema: &Schema<8>,
     ring: &Ring,
     from: u32,
@@ -258,32 +239,16 @@ pub fn read_pages<F: Flash, const KNOTS: usize, const SLOTS: usize>(
     flash: &mut F,
     buf: &mut PageBuf,
 ) -> Result<(), MountFault>
-    requires row { 1 ≤ layout_len (layout_of schema.now) }
-    requires lies { LiesOn ring.now (F.state flash.old) }
-    requires room { length buf.old.bytes ≡ (F.state flash.old).geometry.page }
-    requires none { buf.old.holds ≡ None }
-    requires counts { length counts.old ≡ room (shape_of ring.now) }
-    requires some { 1 ≤ length counts.old }
-    requires from { (oldest_of ring.now ≤ from) × (from ≤ next_of ring.now) }
-    requires within { IsWithin (oldest_of ring.now) (from - oldest_of ring.now) known.old }
+    requires may { MayRead (layout_of schema.now) ring.now (F.state flash.old) counts.old buf.old }
+    requires come { HasCome ring.now from known.old }
     requires bitmaps { WaitFor bitmaps.old from (next_of ring.now) }
     ensures knows { IsTrue (F.state flash.old).media.tells → next_of ring.now - oldest_of ring.now ≤ length counts.old → (error : ℕ) (t : Come) → AreRowsOf t (layout_of schema.now) ring.now (F.state flash.old) → AreUnlisted t from →
         KnowsWith error t t.index_pages (from - t.oldest) known.old counts.old index.old →
         OnOk result (KnowsWith error t t.index_pages t.pages known.new counts.new index.new) × IfErr result (IfPage (λ e. mount_fault t ≡ Some e)) }
-    ensures within { OnOk result (IsWithin (oldest_of ring.now) (next_of ring.now - oldest_of ring.now) known.new) }
-    ensures newest { OnOk result (is_waiting known.new.newest ≤ is_waiting known.old.newest) }
-    ensures size { length counts.new ≡ length counts.old }
-    ensures error { error_in index.new ≡ error_in index.old }
-    ensures same { AreSamePlan bitmaps.old bitmaps.new }
-    ensures still { AreSameRing bitmaps.old bitmaps.new }
-    ensures gathered { OnOk result (AreGathered bitmaps.old (next_of ring.now) bitmaps.new) }
-    ensures waits { OnOk result (IsTrue (F.state flash.old).media.tells → GatherUpTo (layout_of schema.now) bitmaps.old (pages_of ring.now (F.state flash.old)) (next_of ring.now) bitmaps.new) }
-    ensures reads { OnlyReads (F.state flash.old) (next_of ring.now - from) (F.state flash.new) }
-    ensures room { length buf.new.bytes ≡ length buf.old.bytes }
-    ensures none { buf.new.holds ≡ None }
-    ensures fails { IfErr result (IfFlash (λ e. ReadFails (F.state flash.old) e (F.state flash.new))) }
-    ensures only { IfErr result (λ e. is_of_pages e ≡ true) }
-    ensures power { OnOk result ((F.state flash.old).is_on ≡ true → (F.state flash.new).is_on ≡ true) }
+    ensures noted { OnOk result (NotesRest (layout_of schema.now) ring.now bitmaps.old (F.state flash.old) known.old bitmaps.new known.new) }
+    ensures leaves { LeavesNoted bitmaps.old (F.state flash.old) (next_of ring.now - from) bitmaps.new (F.state flash.new) }
+    ensures keeps { Keeps counts.old index.old buf.old counts.new index.new buf.new }
+    ensures fails { IfErr result (λ e. FailsReading (F.state flash.old) e (F.state flash.new)) }
 {
     for number in from..ring.next_number() {
         let at = ring.place_of(number);
@@ -304,10 +269,8 @@ fn told_rows(
     requires most { length bytes.now ≤ 4096 }
     requires row { 1 ≤ layout_len (layout_of schema.now) }
     ensures fine { OnOk result (read_fault (layout_of schema.now) number bytes.now true last ≡ None) }
-    ensures rows { IfOk result (λ page. (page.rows ≡ length (rows_on (layout_of schema.now) bytes.now)) × (page.rows < 65536)) }
+    ensures page { IfOk result (HasRows (layout_of schema.now) bytes.now) }
     ensures last { IfOk result (λ page. page.last ≡ last_in last (rows_on (layout_of schema.now) bytes.now)) }
-    ensures first { IfOk result (λ page. page.first ≡ first_key (rows_on (layout_of schema.now) bytes.now)) }
-    ensures blob_end { IfOk result (λ page. page.blob_end ≡ blobs_end 0 (rows_on (layout_of schema.now) bytes.now)) }
     ensures only { IfErr result (λ e. is_refused e ≡ true) }
     ensures fault { IfErr result (λ e. read_fault (layout_of schema.now) number bytes.now true last ≡ Some e) }
 {
@@ -327,7 +290,7 @@ fn told_rows(
 /// # Errors
 ///
 /// `Flash` where the read fails, and else the first fault of the kept pages: `BadPage` or `BadKeys`.
-pub fn read_newest<F: Flash, const KNOTS: usize, const SLOTS: usize>(
+pub(crate) fn read_newest<F: Flash, const KNOTS: usize, const SLOTS: usize>(
     schema: &Schema<8>,
     ring: &Ring,
     known: &mut Known,
@@ -336,26 +299,14 @@ pub fn read_newest<F: Flash, const KNOTS: usize, const SLOTS: usize>(
     flash: &mut F,
     buf: &mut PageBuf,
 ) -> Result<(), MountFault>
-    requires row { 1 ≤ layout_len (layout_of schema.now) }
-    requires lies { LiesOn ring.now (F.state flash.old) }
-    requires room { length buf.old.bytes ≡ (F.state flash.old).geometry.page }
-    requires none { buf.old.holds ≡ None }
-    requires counts { length counts.old ≡ room (shape_of ring.now) }
-    requires some { 1 ≤ length counts.old }
+    requires may { MayRead (layout_of schema.now) ring.now (F.state flash.old) counts.old buf.old }
     requires rows { known.old.rows + 65536 < 2 ^ 64 }
-    requires within { IsWithin (oldest_of ring.now) (next_of ring.now - oldest_of ring.now) known.old }
     ensures knows { IsTrue (F.state flash.old).media.tells → next_of ring.now - oldest_of ring.now ≤ length counts.old → (error : ℕ) (t : Come) → AreRowsOf t (layout_of schema.now) ring.now (F.state flash.old) → KnowsWith error t t.index_pages t.pages known.old counts.old index.old →
         OnOk result (KnowsWith error t t.index_pages t.pages known.new counts.new index.new) × IfErr result (IfPage (λ e. mount_fault t ≡ Some e)) }
     ensures counted { OnOk result (known.new.newest ≡ None) }
-    ensures within { OnOk result (IsWithin (oldest_of ring.now) (next_of ring.now - oldest_of ring.now) known.new) }
-    ensures size { length counts.new ≡ length counts.old }
-    ensures error { error_in index.new ≡ error_in index.old }
     ensures reads { OnlyReads (F.state flash.old) (is_waiting known.old.newest) (F.state flash.new) }
-    ensures room { length buf.new.bytes ≡ length buf.old.bytes }
-    ensures none { buf.new.holds ≡ None }
-    ensures fails { IfErr result (IfFlash (λ e. ReadFails (F.state flash.old) e (F.state flash.new))) }
-    ensures only { IfErr result (λ e. is_of_pages e ≡ true) }
-    ensures power { OnOk result ((F.state flash.old).is_on ≡ true → (F.state flash.new).is_on ≡ true) }
+    ensures keeps { Keeps counts.old index.old buf.old counts.new index.new buf.new }
+    ensures fails { IfErr result (λ e. FailsReading (F.state flash.old) e (F.state flash.new)) }
 {
     let Some(waiting) = known.newest else {
         return Ok(());

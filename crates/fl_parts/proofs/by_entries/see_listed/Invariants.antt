@@ -1,15 +1,14 @@
-use Rattle.std.proofs.Common.{◌≡◌, ◌≤◌, ◌-◌, ◌+◌, ℕ, None, length, IsTrue}
-use Rattle.fl_find.specs.Index.{error_in}
-use Rattle.fl_index.specs.Memory.{is_running, oldest_in, next_in, IsSamePlan, LiesOn as IndexLies}
+use Rattle.std.proofs.Common.{◌≤◌, ◌-◌, ◌+◌, ℕ, length, IsTrue}
+use Rattle.fl_index.specs.Memory.{oldest_in, next_in}
 use Rattle.fl_index.specs.Standing.{StandsBelow}
 use Rattle.fl_model.specs.Record.{Plan}
 use Rattle.fl_model.specs.Table as model
-use Rattle.fl_frame.specs.Reads.{OnlyReads}
 use Rattle.fl_ring.specs.Place.{next_of, oldest_of}
 use Rattle.fl_schema.specs.Schema.{layout_of}
 use Rattle.fl_parts.specs.ByEntries.{Come}
 use Rattle.fl_parts.specs.Coming.{AreRemembered, IsComeTo}
-use Rattle.fl_parts.specs.Knowing.{KnowsWith, IsWithin, ReadsBut, is_waiting}
+use Rattle.fl_parts.specs.KeptSteps.{HasComeBy, Keeps, LeavesIndex}
+use Rattle.fl_parts.specs.Knowing.{KnowsWith}
 use Rattle.fl_parts.proofs.ListedPages.{HasPassed}
 use Rattle.fl_parts.proofs.by_entries.see_listed.Given as goal
 
@@ -20,20 +19,9 @@ invariant-loop-page g l =
     let first = oldest_in l.initial.bitmaps in record {
       from : first ≤ l.page;
       most : l.page ≤ next_in l.initial.bitmaps;
-      low : oldest_of l.ring ≤ l.number;
-      high : l.number ≤ next_of l.ring;
-      reads : OnlyReads before ((l.page - first) + (l.number - oldest_of l.ring)) now;
-      spared : ReadsBut before ((l.page - first) + (l.number - oldest_of l.ring) + is_waiting l.initial.known.newest) l.known now;
-      room : length l.buf.bytes ≡ length l.initial.buf.bytes;
-      none : l.buf.holds ≡ None;
-      counts : length l.counts ≡ length l.initial.counts;
-      error : error_in l.index ≡ error_in l.initial.index;
-      within : IsWithin (oldest_of l.ring) (l.number - oldest_of l.ring) l.known;
-      same : IsSamePlan l.initial.bitmaps l.bitmaps;
-      running : is_running l.bitmaps ≡ is_running l.initial.bitmaps;
-      oldest : oldest_in l.bitmaps ≡ oldest_in l.initial.bitmaps;
-      next : next_in l.bitmaps ≡ next_in l.initial.bitmaps;
-      index_lies : IndexLies l.bitmaps now;
+      come : HasComeBy l.ring l.number (l.page - first + (l.number - oldest_of l.ring)) before l.initial.known l.known now;
+      leaves : LeavesIndex l.initial.bitmaps before (l.page - first + (l.number - oldest_of l.ring)) l.bitmaps now;
+      keeps : Keeps l.initial.counts l.initial.index l.initial.buf l.counts l.index l.buf;
       stands : (first : ℕ) → (plan : Plan) → (table : model.Table) → IsTrue before.media.tells → StandsBelow (oldest_in l.initial.bitmaps) l.initial.bitmaps before first plan table → StandsBelow l.page l.bitmaps now first plan table;
       remembers : IsTrue before.media.tells → AreRemembered l.initial.bitmaps before first l.page l.bitmaps;
       passed : IsTrue before.media.tells → next_of l.ring - oldest_of l.ring ≤ length l.initial.counts → (error : ℕ) (t : Come) → IsComeTo t (layout_of l.schema) l.limit l.initial.bitmaps l.ring before → KnowsWith error t 0 0 l.initial.known l.initial.counts l.initial.index →

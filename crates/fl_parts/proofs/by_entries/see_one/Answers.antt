@@ -1,127 +1,95 @@
-use Rattle.std.proofs.Common.{rules, ◌≡◌, ◌+◌, Option, Some, sym, ◌∙◌, ap, arith, refl}
+use Rattle.std.proofs.Common.{rules, ◌≡◌, ◌-◌, Option, Some, sym, ◌∙◌, ap, arith, refl}
 use Rattle.std.specs.Prelude.{option_map}
-use Rattle.std.proofs.lemmas.Result.{err_from_is_err_and, IfErr-weaker}
+use Rattle.std.proofs.lemmas.Result.{err_from_is_err_and}
 use Rattle.fl_flash.specs.Flash.{page_at}
+use Rattle.fl_frame.proofs.ReadsInTurn.{no_reads}
 use Rattle.fl_index.specs.Page.{full_view}
 use Rattle.fl_index.specs.declared.page.Full as code
 use Rattle.fl_ring.proofs.Exists.{page_exists}
-use Rattle.fl_frame.proofs.ReadsInTurn.{no_reads}
-use Rattle.fl_parts.specs.ByEntries.{mount_fault}
-use Rattle.fl_parts.specs.Knowing.{is_waiting}
+use Rattle.fl_ring.specs.Place.{oldest_of}
+use Rattle.fl_schema.specs.Schema.{layout_of}
+use Rattle.fl_parts.specs.ByEntries.{entry, mount_fault}
+use Rattle.fl_parts.specs.Knowing.{IsUnlisted}
 use Rattle.fl_parts.specs.declared.mount_fault.MountFault.{MountFault}
-use Rattle.fl_parts.proofs.Refused.{page-page}
+use Rattle.fl_parts.proofs.KeptParts.{at-place, err-page, err-refused, few-read, few-rest, one-listed, one-read, reads-none, some-places}
 use Rattle.fl_parts.proofs.ListedPages.{any-ok}
-use Rattle.fl_parts.proofs.SparedReads.{waiting-few, spared-none, spared-reads}
-use Rattle.fl_parts.proofs.MountProgress.{fewer-reads}
 use Rattle.fl_parts.proofs.Untouched.{at-most, no-success}
 use Rattle.fl_parts.proofs.by_entries.see_one.Goals as goal
 
+pub see_entry-requires : goal.see_entry-requires
+see_entry-requires g c = (search (rules, arith), (some-places c.requires.may, (few-rest _ c.requires.few.rows, c.requires.few.voids)))
+
 pub returns-in-Some-clause-knows : goal.returns-in-Some-clause-knows
-returns-in-Some-clause-knows g c = λ told error t k n is at lt fits tells next h.
+returns-in-Some-clause-knows g c = λ told error t k n rows is tells h.
     let entry_is = tells ∙ (ap (option_map full_view) (sym c.listed.ensures) ∙ ap (λ (o : Option code.Full). option_map full_view o) c.in-Some.is) in
-    let saw = c.see_entry.ensures.knows error t k n h lt fits at entry_is next in
-    (saw.0, IfErr-weaker c.see_entry.result (λ (e : MountFault). mount_fault t ≡ Some e) _ (λ e is. page-page e (λ (e : MountFault). mount_fault t ≡ Some e) is) saw.1)
+    let saw = c.see_entry.ensures.knows error t k n h is entry_is in
+    (saw.0, err-page (λ (e : MountFault). mount_fault t ≡ Some e) c.see_entry.result saw.1, at-most _ _)
+
+pub returns-in-Some-clause-come : goal.returns-in-Some-clause-come
+returns-in-Some-clause-come g c =
+    let come = c.requires.come in
+    let ring = c.args.ring.now in
+    let within = c.see_entry.ensures.within (oldest_of ring) (c.args.number - oldest_of ring) come.within (at-place (oldest_of ring) c.args.number come.low) in
+    any-ok c.see_entry.result (one-listed ring c.args.number (g.F.Flash.state c.args.flash.now) c.args.known.now c.see_entry.new.known come c.requires.before within)
+
+pub returns-in-Some-clause-reads : goal.returns-in-Some-clause-reads
+returns-in-Some-clause-reads g c = reads-none (g.F.Flash.state c.args.flash.now) 1
+
+pub returns-in-Some-clause-keeps : goal.returns-in-Some-clause-keeps
+returns-in-Some-clause-keeps g c = record { size = c.see_entry.ensures.size; error = c.see_entry.ensures.error; room = refl; none = c.requires.may.none }
+
+pub returns-in-Some-clause-fails : goal.returns-in-Some-clause-fails
+returns-in-Some-clause-fails g c =
+    let f = g.F.Flash.state c.args.flash.now in
+    err-refused f f c.see_entry.result c.see_entry.ensures.only
 
 pub read_page-requires : goal.read_page-requires
 read_page-requires g c =
     let f = g.F.Flash.state c.args.flash.now in
-    (search (rules, arith), (c.requires.row, (page_exists c.args.ring.now f f 0 c.place_of-at.result c.requires.lies (no_reads f) c.place_of-at.ensures.within, (c.requires.room, (c.requires.some, (c.requires.few, c.requires.few_voids))))))
+    let may = c.requires.may in
+    (search (rules, arith), (may.row, (page_exists c.args.ring.now f f 0 c.place_of-at.result may.lies (no_reads f) c.place_of-at.ensures.within, (may.room, (some-places may, c.requires.few)))))
 
 pub returns-in_err-read_page-clause-knows : goal.returns-in_err-read_page-clause-knows
-returns-in_err-read_page-clause-knows g c = λ told error t k n is at lt fits tells next h.
+returns-in_err-read_page-clause-knows g c = λ told error t k n rows is tells h.
     let p = err_from_is_err_and c.from_residual.result c.from_residual.ensures.1 in
     let f = g.F.Flash.state c.args.flash.now in
+    let read = c.in_err-read_page.ensures in
     let none = tells ∙ (ap (option_map full_view) (sym c.listed.ensures) ∙ ap (λ (o : Option code.Full). option_map full_view o) c.in_default.is) in
-    rw (p.1, p.2) (tt, (c.in_err-read_page.ensures.knows told error t k n h lt fits at (record { layout_is = is.layout_is; bytes_are = is.rows c.args.number ∙ sym (ap (page_at f) c.place_of-at.ensures.place); none = none }) next).1)
+    let un : IsUnlisted t (layout_of c.args.schema.now) c.args.number (page_at f c.place_of-at.result) = record { layout_is = rows.layout_is; bytes_are = rows.rows c.args.number ∙ sym (ap (page_at f) c.place_of-at.ensures.place); none = none } in
+    rw (p.1, p.2) (tt, (read.knows told error t k n h is un).1, few-read (entry t c.args.number) _ _ none read.reads.reads)
 
-pub returns-in_err-read_page-clause-within : goal.returns-in_err-read_page-clause-within
-returns-in_err-read_page-clause-within g c = λ oldest n h at. c.in_err-read_page.ensures.within oldest n h
-
-pub returns-clause-knows : goal.returns-clause-knows
-returns-clause-knows g c = λ told error t k n is at lt fits tells next h.
-    let f = g.F.Flash.state c.args.flash.now in
-    let none = tells ∙ (ap (option_map full_view) (sym c.listed.ensures) ∙ ap (λ (o : Option code.Full). option_map full_view o) c.in_default.is) in
-    ((c.in_ok-read_page.ensures.knows told error t k n h lt fits at (record { layout_is = is.layout_is; bytes_are = is.rows c.args.number ∙ sym (ap (page_at f) c.place_of-at.ensures.place); none = none }) next).0, tt)
-
-pub returns-clause-within : goal.returns-clause-within
-returns-clause-within g c = λ oldest n h at. c.in_ok-read_page.ensures.within oldest n h
-
-pub returns-in-Some-clause-spared : goal.returns-in-Some-clause-spared
-returns-in-Some-clause-spared g c =
-    let f = g.F.Flash.state c.args.flash.now in
-    let known = c.see_entry.new.known in
-    any-ok c.see_entry.result (spared-none f (1 + is_waiting c.args.known.now.newest) known (omega (arith, waiting-few known.newest)))
-
-pub returns-clause-spared : goal.returns-clause-spared
-returns-clause-spared g c =
-    spared-reads (g.F.Flash.state c.args.flash.now) (g.F.Flash.state c.read_page.new.flash) 1 c.args.known.now c.read_page.new.known c.in_ok-read_page.ensures.reads c.in_ok-read_page.ensures.waits
-
-pub returns-in-Some-clause-within : goal.returns-in-Some-clause-within
-returns-in-Some-clause-within g c = c.see_entry.ensures.within
-
-pub returns-in-Some-clause-size : goal.returns-in-Some-clause-size
-returns-in-Some-clause-size g c = c.see_entry.ensures.size
-
-pub returns-in-Some-clause-error : goal.returns-in-Some-clause-error
-returns-in-Some-clause-error g c = c.see_entry.ensures.error
-
-pub returns-in-Some-clause-room : goal.returns-in-Some-clause-room
-returns-in-Some-clause-room g c = refl
-
-pub returns-in-Some-clause-none : goal.returns-in-Some-clause-none
-returns-in-Some-clause-none g c = c.requires.none
-
-pub returns-in-Some-clause-reads : goal.returns-in-Some-clause-reads
-returns-in-Some-clause-reads g c = fewer-reads (g.F.Flash.state c.args.flash.now) (g.F.Flash.state c.args.flash.now) 0 1 (at-most 0 1) (no_reads (g.F.Flash.state c.args.flash.now))
-
-pub returns-in-Some-clause-power : goal.returns-in-Some-clause-power
-returns-in-Some-clause-power g c = any-ok c.see_entry.result (λ on. on)
-
-pub returns-in_err-read_page-clause-size : goal.returns-in_err-read_page-clause-size
-returns-in_err-read_page-clause-size g c = c.in_err-read_page.ensures.size
-
-pub returns-in_err-read_page-clause-error : goal.returns-in_err-read_page-clause-error
-returns-in_err-read_page-clause-error g c = c.in_err-read_page.ensures.error
+pub returns-in_err-read_page-clause-come : goal.returns-in_err-read_page-clause-come
+returns-in_err-read_page-clause-come g c = no-success _ _ c.from_residual.result c.from_residual.ensures.1
 
 pub returns-in_err-read_page-clause-reads : goal.returns-in_err-read_page-clause-reads
 returns-in_err-read_page-clause-reads g c = c.in_err-read_page.ensures.reads
 
-pub returns-in_err-read_page-clause-room : goal.returns-in_err-read_page-clause-room
-returns-in_err-read_page-clause-room g c = c.in_err-read_page.ensures.room
-
-pub returns-in_err-read_page-clause-none : goal.returns-in_err-read_page-clause-none
-returns-in_err-read_page-clause-none g c = c.in_err-read_page.ensures.none
-
-pub returns-in_err-read_page-clause-spared : goal.returns-in_err-read_page-clause-spared
-returns-in_err-read_page-clause-spared g c = no-success _ _ c.from_residual.result c.from_residual.ensures.1
-
-pub returns-in_err-read_page-clause-power : goal.returns-in_err-read_page-clause-power
-returns-in_err-read_page-clause-power g c = no-success _ _ c.from_residual.result c.from_residual.ensures.1
+pub returns-in_err-read_page-clause-keeps : goal.returns-in_err-read_page-clause-keeps
+returns-in_err-read_page-clause-keeps g c = c.in_err-read_page.ensures.keeps
 
 pub returns-in_err-read_page-clause-fails : goal.returns-in_err-read_page-clause-fails
 returns-in_err-read_page-clause-fails g c =
     let p = err_from_is_err_and c.from_residual.result c.from_residual.ensures.1 in
     rw (p.1, p.2) c.in_err-read_page.ensures.fails
 
-pub returns-in_err-read_page-clause-only : goal.returns-in_err-read_page-clause-only
-returns-in_err-read_page-clause-only g c =
-    let p = err_from_is_err_and c.from_residual.result c.from_residual.ensures.1 in
-    rw (p.1, p.2) c.in_err-read_page.ensures.only
+pub returns-clause-knows : goal.returns-clause-knows
+returns-clause-knows g c = λ told error t k n rows is tells h.
+    let f = g.F.Flash.state c.args.flash.now in
+    let read = c.in_ok-read_page.ensures in
+    let none = tells ∙ (ap (option_map full_view) (sym c.listed.ensures) ∙ ap (λ (o : Option code.Full). option_map full_view o) c.in_default.is) in
+    let un : IsUnlisted t (layout_of c.args.schema.now) c.args.number (page_at f c.place_of-at.result) = record { layout_is = rows.layout_is; bytes_are = rows.rows c.args.number ∙ sym (ap (page_at f) c.place_of-at.ensures.place); none = none } in
+    ((read.knows told error t k n h is un).0, tt, few-read (entry t c.args.number) _ _ none read.reads.reads)
 
-pub returns-clause-size : goal.returns-clause-size
-returns-clause-size g c = c.in_ok-read_page.ensures.size
-
-pub returns-clause-error : goal.returns-clause-error
-returns-clause-error g c = c.in_ok-read_page.ensures.error
+pub returns-clause-come : goal.returns-clause-come
+returns-clause-come g c =
+    let read = c.in_ok-read_page.ensures in
+    one-read c.args.ring.now c.args.number (g.F.Flash.state c.args.flash.now) (g.F.Flash.state c.read_page.new.flash) c.args.known.now c.read_page.new.known c.requires.come c.requires.before read.counted read.reads
 
 pub returns-clause-reads : goal.returns-clause-reads
 returns-clause-reads g c = c.in_ok-read_page.ensures.reads
 
-pub returns-clause-room : goal.returns-clause-room
-returns-clause-room g c = c.in_ok-read_page.ensures.room
+pub returns-clause-keeps : goal.returns-clause-keeps
+returns-clause-keeps g c = c.in_ok-read_page.ensures.keeps
 
-pub returns-clause-none : goal.returns-clause-none
-returns-clause-none g c = c.in_ok-read_page.ensures.none
-
-pub returns-clause-power : goal.returns-clause-power
-returns-clause-power g c = λ on. c.in_ok-read_page.ensures.power
+pub returns-clause-fails : goal.returns-clause-fails
+returns-clause-fails g c = tt
