@@ -1,6 +1,6 @@
 -- The table with a name, among tables and among their plans.
 use Rattle.std.proofs.Common.{◌≡◌, ℕ, zero, suc, ◌+◌, ◌<◌, Bool, true, false, ◌||◌, if◌then◌else◌, Option, None, Some, List, [], ◌∷◌, refl, sym, ◌∙◌, ap, arith, find, slice_get}
-use Rattle.std.proofs.lemmas.Option.{slice_get_within, none-some}
+use Rattle.std.proofs.lemmas.Option.{slice_get_within, none-some, same_Some}
 use Rattle.fl_config.proofs.Names.{bytes_equal-other}
 use Rattle.fl_flash.specs.Flash.{FlashState}
 use Rattle.fl_model.specs.Record.{Plan, bytes_equal}
@@ -23,8 +23,8 @@ pub located-first : (plans : List Plan) (tables : List model.Table) (place at : 
 located-first [] tables place at name plan table p t named others = absurd (none-some plan p)
 located-first (q ∷ plans) [] place at name plan table p t named others = absurd (none-some table t)
 located-first (q ∷ plans) (x ∷ tables) place zero name plan table p t named others =
-    let plan_is : q ≡ plan = cc in
-    let table_is : x ≡ table = cc in
+    let plan_is = same_Some q plan p in
+    let table_is = same_Some x table t in
     let own : bytes_equal q.name name ≡ true = ap (bytes_equal q.name) (sym named ∙ ap (λ (r : Plan). r.name) (sym plan_is)) ∙ bytes_equal-own q.name in
     let here : place ≡ place + 0 = omega arith in
     ap (λ (b : Bool). if b then AsLocated place q x else located_from (place + 1) plans tables name) own
@@ -48,7 +48,7 @@ pub find-first : (plans : List Plan) (at : ℕ) (name : List ℕ) (plan : Plan) 
     find (λ p. bytes_equal p.name name) plans ≡ Some plan
 find-first [] at name plan e named others = absurd (none-some plan e)
 find-first (q ∷ plans) zero name plan e named others =
-    let plan_is : q ≡ plan = cc in
+    let plan_is = same_Some q plan e in
     let own : bytes_equal q.name name ≡ true = ap (bytes_equal q.name) (sym named ∙ ap (λ (r : Plan). r.name) (sym plan_is)) ∙ bytes_equal-own q.name in
     rw own (ap (λ (r : Plan). Some r) plan_is)
 find-first (q ∷ plans) (suc at) name plan e named others =
@@ -59,7 +59,7 @@ find-first (q ∷ plans) (suc at) name plan e named others =
 pub name-there : (plans : List Plan) (at : ℕ) (name : List ℕ) (plan : Plan) → slice_get plans at ≡ Some plan → plan.name ≡ name → has_name name plans ≡ true
 name-there [] at name plan p named = absurd (none-some plan p)
 name-there (q ∷ plans) zero name plan p named =
-    let plan_is : q ≡ plan = cc in
+    let plan_is = same_Some q plan p in
     let own : bytes_equal q.name name ≡ true = ap (bytes_equal q.name) (sym named ∙ ap (λ (r : Plan). r.name) (sym plan_is)) ∙ bytes_equal-own q.name in
     rw own refl
 name-there (q ∷ plans) (suc at) name plan p named = rw (name-there plans at name plan p named) (either (bytes_equal q.name name))
