@@ -6,8 +6,9 @@
 It builds what CRATE stands on and nothing else (`rt lib` in each crate's folder), each crate once those below it are built, and those
 first that most waits for. Such a crate is proved by several jobs, and any other by one at a lower priority, so that it fills what the
 first leave free. `rt lib` locks the folders of the crate and of all below it, so that two of them in one checkout would wait for each
-other: each lane has a copy of the sources, in `out/`, and rt takes from the other lanes what they built. In the end the checkout takes
-all of it, and the copies are removed.
+other: each lane has a copy of the sources, in `out/lanes`, and rt takes from the other lanes what they built. The checkout takes each
+library as soon as it is built, so that a build which was interrupted goes on from there. In the end the copies are removed. A second
+build waits for the first.
 
     CRATE     a crate of crates.txt
     --lanes N crates at once; if left out, one a processor, at most one for each 4 GB of free memory
@@ -17,6 +18,7 @@ It prints a line on standard error as each crate begins, with how many are built
 all are built, else 1, with what the failed one printed. rt and rattle decide what is proved: this decides the order alone.
 """
 import argparse
+import fcntl
 import os
 import shutil
 import subprocess
@@ -89,13 +91,13 @@ def build(crate, root, jobs):
 
 
 def build_all(crates, room, lanes):
-    """Builds the crates in lanes, and returns whether all are built."""
+    """Builds the crates in lanes below a folder, has the checkout take each, and returns whether all are built."""
     order, began = behind(crates), time.monotonic()
     left, built, running = sorted(crates, key=lambda it: -order[it]), set(), {}
     idle = [room / str(it) for it in range(lanes)]
     for root in idle:
         copy_of_sources(root)
-    with ThreadPoolExecutor(lanes) as pool:
+    with ThreadPoolExecutor(lanes) as pool, ThreadPoolExecutor(1) as taking:
         while left or running:
             near = NEAR * max(order[it] for it in [*left, *(crate for crate, _, _ in running.values())])
             for crate in [it for it in left if built.issuperset(crates[it])][: len(idle)]:
@@ -112,6 +114,7 @@ def build_all(crates, room, lanes):
                 is_built, told = it.result()
                 if is_built:
                     built.add(crate)
+                    taking.submit(build, crate, ROOT, 1)
                 else:
                     print(told, file=sys.stderr)
                     left = []
@@ -129,14 +132,20 @@ def main():
         order = behind(crates)
         print("\n".join(sorted(crates, key=lambda it: -order[it])))
         return 0
-    (ROOT / "out").mkdir(exist_ok=True)
-    with tempfile.TemporaryDirectory(prefix="lanes-", dir=ROOT / "out") as room:
-        if not build_all(crates, Path(room), given.lanes or lanes_here()):
-            return 1
-        # (what another checkout built is taken, and not built again)
-        tops = [it for it in crates if not any(it in below for below in crates.values())]
-        return 0 if all(build(it, ROOT, 1)[0] for it in tops) else 1
+    room = ROOT / "out" / "lanes"
+    room.parent.mkdir(exist_ok=True)
+    with open(room.with_suffix(".lock"), "w", encoding="utf-8") as turn:
+        fcntl.flock(turn, fcntl.LOCK_EX)
+        # (what a build left that was killed)
+        shutil.rmtree(room, ignore_errors=True)
+        try:
+            return 0 if build_all(crates, room, given.lanes or lanes_here()) else 1
+        finally:
+            shutil.rmtree(room, ignore_errors=True)
 
 
 if __name__ == "__main__":
-    sys.exit(main())
+    try:
+        sys.exit(main())
+    except KeyboardInterrupt:
+        sys.exit("build: interrupted; what is proved stays, and the next build goes on from there")
