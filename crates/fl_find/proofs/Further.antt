@@ -14,3 +14,7 @@ further-told points knots p same past = ap (λ (o : Option (ℕ × ℕ)). unwrap
         let first = lt-ltb end.0 p.0 h.0 in
         let second = lt-ltb end.1 p.1 h.1 in
         ap (λ b. b && nat_lt end.1 p.1) first ∙ second
+
+-- what the test says, by the last of the list
+pub further-by : (knots : List (ℕ × ℕ)) (p : ℕ × ℕ) (end : Option (ℕ × ℕ)) → last_of knots ≡ end → is_further knots p ≡ unwrap_or (option_map (λ end. nat_lt end.0 p.0 && nat_lt end.1 p.1) end) true
+further-by knots p end is = ap (λ (o : Option (ℕ × ℕ)). unwrap_or (option_map (λ end. nat_lt end.0 p.0 && nat_lt end.1 p.1) o) true) is

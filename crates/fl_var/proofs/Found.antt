@@ -19,7 +19,7 @@ use Rattle.fl_model.specs.Record.{Plan, content_per_page}
 use Rattle.fl_model.specs.Ring.{Ring, oldest}
 use Rattle.fl_model.specs.Table as model
 use Rattle.fl_model.specs.Table.{Entry, full_pages}
-use Rattle.fl_model.proofs.Lists.{slice_get-short, slice_get-some, slice_get-drop, slice_get-take, each-at, drop_none}
+use Rattle.fl_model.proofs.Lists.{slice_get-short, slice_get-some, slice_get-drop, slice_get-take, each-at, drop_none, take_none}
 use Rattle.fl_page.specs.Header.{page_count}
 use Rattle.fl_page.specs.declared.fault.BadPage.{BadPage}
 use Rattle.fl_page.specs.declared.fault.ReadFault.{ReadFault}
@@ -36,6 +36,11 @@ use Rattle.fl_var.specs.declared.reader.BlobReader.{BlobReader}
 use Rattle.fl_var.specs.declared.var_data.VarData.{VarData}
 use Rattle.fl_var.proofs.PageImages.{image-other, image-next, page-count, page-content, page-has, filled-length, waiting-room}
 use Rattle.fl_var.proofs.Stored.{contents-at, same-front, content-size, place-within, place-last, place-lt}
+
+-- a list without elements
+nothing : (xs : List ℕ) → length xs ≡ 0 → xs ≡ []
+nothing [] e = refl
+nothing (x ∷ xs) e = absurd (omega (arith, e))
 
 -- what is told of an entry's blob
 module _ (table : model.Table) (ring : Ring) (entry : Entry) (bytes : List ℕ) (ring_is : table.var ≡ Some ring) (blob_is : entry.kept.blob ≡ Some bytes) where
@@ -57,10 +62,10 @@ module _ (table : model.Table) (ring : Ring) (entry : Entry) (bytes : List ℕ) 
 
   pub blob-empty : length bytes ≡ 0 → blob_of table entry ≡ StandsWith bytes
   blob-empty none = blob-told true (page_stands ring entry.page) (eq-eqb (length bytes) 0 none) refl ∙ ap StandsWith (sym (nothing bytes none))
-    where
-      nothing : (xs : List ℕ) → length xs ≡ 0 → xs ≡ []
-      nothing [] e = refl
-      nothing (x ∷ xs) e = absurd (omega (arith, e))
+
+  -- an empty blob was opened
+  pub found-empty : length bytes ≡ 0 → (left : List ℕ) → (blob_of table entry ≡ StandsWith bytes) × (take 0 left ≡ bytes)
+  found-empty none left = (blob-empty none, take_none left ∙ sym (nothing bytes none))
 
 module _ (v : VarData) (f : FlashState) (plan : Plan) (table : model.Table) (stands : Stands v f plan table) (sizes : (n : ℕ) → length (page_at f (place (var_shape v) n)) ≡ v.geometry.page) where
   abbrev ring : Ring

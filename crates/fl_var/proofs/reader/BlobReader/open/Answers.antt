@@ -1,7 +1,7 @@
-use Rattle.std.proofs.Common.{rules, ◌<◌, ◌≤◌, Err, inr, refl, sym, ◌∙◌, arith, ◌+◌, ◌/◌}
-use Rattle.fl_var.specs.Blobs.{Begins}
+use Rattle.std.proofs.Common.{rules, ◌<◌, ◌≤◌, Err, inr, refl, sym, ◌∙◌, arith, ◌+◌, ◌/◌, ap, drop}
+use Rattle.fl_var.specs.Blobs.{Begins, contents_in}
 use Rattle.fl_var.specs.Memory.{room_in, image_in, present}
-use Rattle.fl_var.proofs.Found.{found-none, found-some, found-err}
+use Rattle.fl_var.proofs.Found.{found-none, found-some, found-err, found-empty}
 use Rattle.fl_var.proofs.SealsInTable.{pages-size}
 use Rattle.fl_var.proofs.Stored.{content-size}
 use Rattle.fl_var.proofs.Wholes.{pages-few}
@@ -9,8 +9,9 @@ use Rattle.std.proofs.Math.Nat.{le_refl, le_trans, le_of_lt}
 use Rattle.std.proofs.lemmas.Bool.{false≢true, lt-ltb}
 use Rattle.fl_frame.proofs.ContentsInTurn.{OnlyReads-same}
 use Rattle.fl_var.proofs.PageLooks.{unread}
-use Rattle.fl_var.proofs.Readers.{least, none-and-some, no-slice, present-still, opens-err, same-ok, err-ok}
+use Rattle.fl_var.proofs.Readers.{least, none-and-some, no-slice, present-still, opens-err, same-ok, err-ok, no-more}
 use Rattle.fl_var.proofs.Lists.{not-none}
+use Rattle.fl_base.specs.declared.types.BlobRef.{BlobRef}
 use Rattle.fl_var.proofs.reader.BlobReader.open.Goals as goal
 
 pub returns-in-Err-clause-finds : goal.returns-in-Err-clause-finds
@@ -252,3 +253,11 @@ invariant_of-self-in-Ok-Some g c =
       fits = within.3;
       all = within.2;
     }
+
+pub returns-then-at-eq0-clause-finds : goal.returns-then-at-eq0-clause-finds
+returns-then-at-eq0-clause-finds g c =
+    λ plan table entry bytes told stands blob_is at_is holds.
+    let r = c.args.self.now in
+    let none = sym (ap (λ (x : BlobRef). x.length) at_is) ∙ c.if-at-eq0.true in
+    let h = found-empty table stands.ring.ring entry bytes stands.ring.ring_is blob_is none (drop r.end (contents_in r.var.now (g.F.Flash.state c.args.flash.now) r.page)) in
+    (h.0, h.1, λ left. absurd (no-more 0 0 left (least 0)))

@@ -381,11 +381,6 @@ returns-in_err-write-clause-oldest g c =
 pub returns-clause-mounted : goal.returns-clause-mounted
 returns-clause-mounted g c = c.in_ok-write.ensures.mounted
 
-pub returns-clause-reference : goal.returns-clause-reference
-returns-clause-reference g c =
-    let at = ap (λ n. record { page = n; offset = length c.content.result.now; length = length c.args.bytes.now }) c.next_number.ensures ∙ ap (λ (l : List ℕ). record { page = next_in c.make_room.new.self; offset = length l; length = length c.args.bytes.now }) c.content.ensures.content in
-    at ∙ reference-mid c.args.self.now c.make_room.new.self (length c.args.bytes.now) (some-there (length c.args.bytes.now) c.is_empty.result c.is_empty.ensures c.if-is_empty.false) c.in_ok-make_room.ensures.next c.in_ok-make_room.ensures.waits
-
 pub returns-clause-lost : goal.returns-clause-lost
 returns-clause-lost g c = λ lost. absurd (done-err _ _ lost)
 
