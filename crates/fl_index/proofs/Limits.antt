@@ -1,5 +1,6 @@
 -- Small facts on counts and sizes, over plain variables.
-use Rattle.std.proofs.Common.{◌≡◌, ◌⊎◌, inl, ℕ, ◌+◌, ◌-◌, ◌/◌, ◌^◌, ◌<◌, ◌≤◌, ◌==◌, Bool, true, false, if◌then◌else◌, min, IsTrue, Result, Ok, Err, OnOk, refl, ◌∙◌, ap, arith, Fits, w16, div-le_self}
+use Rattle.std.proofs.Common.{◌≡◌, ◌⊎◌, inl, ℕ, ◌+◌, ◌-◌, ◌/◌, ◌^◌, ◌<◌, ◌≤◌, ◌==◌, Bool, true, false, if◌then◌else◌, min, IsTrue, Result, Ok, Err, OnOk, refl, ◌∙◌, ap, arith, Fits, w16, div-le_self, List, length, drop, replicate, sym, w32, w64}
+use Rattle.std.proofs.lemmas.List.{length-replicate, drop-replicate}
 use Rattle.std.proofs.lemmas.Bool.{eqb-true}
 use Rattle.fl_flash.specs.Buffer.{BufferState}
 use Rattle.fl_flash.specs.Flash.{FlashState, ReadsPage, page_at}
@@ -20,6 +21,37 @@ few-fit waiting size len few small = let most = div-le_self (size - 24) len in o
 
 pub body-large : (len size : ℕ) → len + 8 ≡ size → 64 ≤ size → 16 ≤ len
 body-large len size is least = omega (arith, is, least)
+
+-- the sizes of an index in 64 bits
+pub blocks-wide : (blocks : ℕ) → blocks ≤ 16384 → Fits w64 blocks
+blocks-wide blocks few = omega (arith, few)
+
+pub block-wide : (block : ℕ) → block ≤ 256 → Fits w64 block
+block-wide block few = omega (arith, few)
+
+pub page-wide : (size : ℕ) → size ≤ 4096 → Fits w64 size
+page-wide size small = omega (arith, small)
+
+pub page-room : (size : ℕ) → 64 ≤ size → 8 ≤ size
+page-room size least = omega (arith, least)
+
+-- a new body
+pub body-size : (body : List ℕ) (size : ℕ) → body ≡ replicate (size - 8) 255 → 8 ≤ size → length body + 8 ≡ size
+body-size body size is room = omega (arith, ap (λ (l : List ℕ). length l) is, length-replicate {A = ℕ} (size - 8) 255, room)
+
+pub body-blank : (body : List ℕ) (n k : ℕ) → body ≡ replicate n 255 → drop k body ≡ replicate (length body - k) 255
+body-blank body n k is =
+    ap (λ (l : List ℕ). drop k l) is ∙ (drop-replicate k n 255 ∙ ap (λ (m : ℕ). replicate (m - k) 255) (sym (ap (λ (l : List ℕ). length l) is ∙ length-replicate {A = ℕ} n 255)))
+
+pub none-yet : 0 + 0 < 2 ^ 32
+none-yet = omega arith
+
+-- one entry more
+pub one-left : (first waiting : ℕ) → first + waiting + 1 < 2 ^ 32 → first + (waiting + 1) < 2 ^ 32
+one-left first waiting left = omega (arith, left)
+
+pub one-fits : (first waiting : ℕ) → first + waiting + 1 < 2 ^ 32 → Fits w32 (waiting + 1)
+one-fits first waiting left = omega (arith, left)
 
 -- the lesser of a page's entries and of the numbers that are left
 pub least-few : (capacity rest least most : ℕ) → least ≡ min capacity rest → capacity ≡ most → least ≤ most

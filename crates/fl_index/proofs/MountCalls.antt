@@ -120,6 +120,12 @@ four-each blocks pages b p =
     let columns : 3 * pages ≤ blocks * pages = mul-le-mul_right pages b in
     omega (arith, rows, columns)
 
+-- .. so few reads are those of the search and the repair
+pub few-found : (old : BitmapIndex) (f mid : FlashState) → Beside (shape_at old.place old.geometry) (search_reads (shape_at old.place old.geometry) + old.geometry.block) 1 1 f mid → FewReads (4 * (old.place.blocks * old.geometry.block)) f mid
+few-found old f mid beside =
+    let all = four-each old.place.blocks old.geometry.block old.some_blocks old.served.block_least in
+    record { reads = omega (arith, beside.few_reads, all); media_reads = omega (arith, beside.media_reads, all) }
+
 -- the kept pages are read on the flash that the first part left
 module _ (old found : BitmapIndex) (f mid g : FlashState) (end : Option ℕ) (h : FindsEnd old f end found mid) (ring : Ring) (same : IsSamePlan old found) (was : found.ring ≡ Some ring) (reads : OnlyReads mid (next_of ring - oldest_of ring) g) where
   ring-is : h.ring ≡ ring

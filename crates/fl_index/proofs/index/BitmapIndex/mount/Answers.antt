@@ -14,7 +14,7 @@ use Rattle.fl_index.proofs.WaitingEntries.{written-back}
 use Rattle.fl_index.proofs.Memories.{planned-same}
 use Rattle.fl_ring.proofs.Exists.{lies_still}
 use Rattle.fl_index.proofs.Lies.{lies-later, no-ring, this-ring}
-use Rattle.fl_index.proofs.MountCalls.{refuses-index, unread-pages, found-few, finds-index, outside-stands, few-all}
+use Rattle.fl_index.proofs.MountCalls.{refuses-index, unread-pages, found-few, finds-index, outside-stands, few-all, few-found}
 use Rattle.fl_frame.proofs.CallsInTurn.{goes-then}
 use Rattle.fl_frame.proofs.ReadsInTurn.{cause_of_read}
 use Rattle.fl_frame.proofs.WatchedInTurn.{cause-later, watched-first, risen-later}
@@ -368,3 +368,6 @@ unreachable-requires g c = absurd (true≢false (sym c.in_ok-end.ensures.running
 
 pub unreachable-unreachable : goal.unreachable-unreachable
 unreachable-unreachable g c = c.unreachable.type_inv
+
+pub returns-in_err-end-clause-reads : goal.returns-in_err-end-clause-reads
+returns-in_err-end-clause-reads g c = λ told. few-found c.args.self.now (g.F.Flash.state c.args.flash.now) (g.F.Flash.state c.find.new.flash) c.find.ensures.beside
