@@ -21,6 +21,7 @@ pub mod LedBlobs
 pub mod ListedPages
 pub mod ListedTables
 pub mod PlacesStay
+pub mod PowersOff
 pub mod OneBreach
 pub mod OneFinding
 pub mod OneFound

@@ -9,7 +9,7 @@ use Rattle.fl_ring.specs.Ring.{Shape}
 use Rattle.fl_rules.specs.Bodies.{HaveBodies, BodiesBreak}
 use Rattle.fl_rules.specs.Numbers.{HaveNumbers}
 use Rattle.fl_check.specs.Ruled.{BodiesTold, NumbersTold, HeadTold, RingTold}
-use Rattle.fl_rules.specs.Stop.{first_page, IfBroken}
+use Rattle.fl_rules.specs.Stop.{first_page, IfFlash, IfBroken}
 use Rattle.fl_check.specs.declared.faults.RingFaults.{RingFaults}
 use Rattle.fl_rules.specs.declared.marks.Marks.{Marks}
 use Rattle.fl_rules.specs.declared.numbering.Numbering.{Numbering}
@@ -41,6 +41,12 @@ if_told (Err (Broken b)) result Told Needs Kept rule Breaks is kept breaks =
     subst (λ (x : Result (Option ℕ) FlashFault). IfOk x (λ o. Told → Needs → MatchOption o Kept Breaks)) (sym is) (λ told needs. (breaks told needs).1)
 if_told (Err (Flash e)) result Told Needs Kept rule Breaks is kept breaks = subst (λ (x : Result (Option ℕ) FlashFault). IfOk x (λ o. Told → Needs → MatchOption o Kept Breaks)) (sym is) tt
 
+-- .. or the fault of the flash
+pub fails_told : (checked : Result (Unit {0}) Stop) (result : Result (Option ℕ) FlashFault) (Fails : FlashFault → Type 0) → result ≡ first_page checked → IfErr checked (IfFlash Fails) → IfErr result Fails
+fails_told (Ok done) result Fails is fails = subst (λ (x : Result (Option ℕ) FlashFault). IfErr x Fails) (sym is) tt
+fails_told (Err (Broken b)) result Fails is fails = subst (λ (x : Result (Option ℕ) FlashFault). IfErr x Fails) (sym is) tt
+fails_told (Err (Flash e)) result Fails is fails = subst (λ (x : Result (Option ℕ) FlashFault). IfErr x Fails) (sym is) fails
+
 -- .. that a check answered
 pub told_of : (o : Option ℕ) (Kept : Type 0) (Breaks : ℕ → Type 0) → IfNone o Kept → IfSome o Breaks → MatchOption o Kept Breaks
 told_of None Kept Breaks kept breaks = kept
@@ -49,6 +55,11 @@ told_of (Some p) Kept Breaks kept breaks = breaks
 pub if_ok_both : {A E : Type 0} (P Q R : A → Type 0) (result : Result A E) → ((a : A) → P a → Q a → R a) → IfOk result P → IfOk result Q → IfOk result R
 if_ok_both P Q R (Ok a) f p q = f a p q
 if_ok_both P Q R (Err e) f p q = tt
+
+-- what is kept only where a test passes
+pub if_kept : {A : Type 0} (P : A → Type 0) (test : Bool) (a : A) (o : Option A) → o ≡ then_some test a → P a → IfSome o P
+if_kept {A = A} P true a o is holds = subst (λ (x : Option A). IfSome x P) (sym is) holds
+if_kept {A = A} P false a o is holds = subst (λ (x : Option A). IfSome x P) (sym is) tt
 
 module _ (Form : ℕ → List ℕ → Type 0) (page : ℕ → List ℕ) (r : Shape) where
   pub bodies_told : (n : Numbering) (body : Option ℕ) (none : Bool) (told : Option Numbering) → told ≡ then_some none n → is_some body ≡ not none

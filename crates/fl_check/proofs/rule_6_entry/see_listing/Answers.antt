@@ -1,4 +1,4 @@
-use Rattle.std.proofs.Common.{◌≡◌, ℕ, ◌+◌, ◌-◌, ◌≤◌, List, length, refl, sym, ◌∙◌, ap, arith}
+use Rattle.std.proofs.Common.{◌≡◌, ℕ, ◌+◌, ◌-◌, ◌≤◌, List, length, refl, sym, ◌∙◌, ap, arith, subst, ◌<◌}
 use Rattle.std.proofs.lemmas.Bool.{true≢false}
 use Rattle.fl_flash.specs.Flash.{FlashState, page_at}
 use Rattle.fl_frame.specs.Reads.{OnlyReads}
@@ -6,16 +6,22 @@ use Rattle.fl_index.specs.Page.{page_first}
 use Rattle.fl_ring.specs.Looking.{state_at}
 use Rattle.fl_ring.specs.Newest.{commits}
 use Rattle.fl_ring.specs.Place.{shape_of}
-use Rattle.fl_ring.proofs.Exists.{lies_exists}
+use Rattle.fl_ring.proofs.Exists.{lies_exists, lies_still}
 use Rattle.fl_ring.proofs.Founds.{same_pages}
-use Rattle.fl_ring.proofs.ReadsInTurn.{fewer_reads}
+use Rattle.fl_ring.proofs.ReadsInTurn.{fewer_reads, mark_fits, header_fits}
 use Rattle.fl_frame.proofs.ReadsInTurn.{more_reads, told_still}
 use Rattle.fl_check.specs.Entries.{over, entries_in, kept_below}
 use Rattle.fl_rules.specs.declared.numbering.Numbering.{Numbering}
 use Rattle.fl_check.proofs.ListedPages.{one_more, descends, misentered, listing_more, entries_move}
 use Rattle.std.proofs.lemmas.Result.{err_from_is_err_and}
-use Rattle.fl_rules.proofs.OneMorePage.{one_of, at_most, behind, one_behind, read_fails}
+use Rattle.fl_rules.proofs.OneMorePage.{one_of, at_most, behind, one_behind, read_fails, some_back, few_back}
 use Rattle.fl_check.proofs.rule_6_entry.see_listing.Goals as goal
+
+below-kept : {i kept : ℕ} → i < kept → i ≤ kept
+below-kept lt = omega (arith, lt)
+
+body-fits : {n size : ℕ} → n ≡ size → 64 ≤ size → 24 ≤ n
+body-fits same least = omega (arith, same, least)
 
 pub look-requires-clause-exists : goal.look-requires-clause-exists
 look-requires-clause-exists g c = lies_exists c.args.index.now (g.F.Flash.state c.args.flash.now) c.page_back-page.result c.requires.index c.page_back-page.ensures.within
@@ -233,3 +239,57 @@ returns-clause-last g c = λ some. behind _
 
 pub returns-clause-fails : goal.returns-clause-fails
 returns-clause-fails g c = tt
+
+pub overflow_sub-l : goal.overflow_sub-l
+overflow_sub-l g c = below-kept c.requires.kept
+
+pub page_back-page-requires-clause-place : goal.page_back-page-requires-clause-place
+page_back-page-requires-clause-place g c = c.requires.index_within.at
+
+pub page_back-page-requires-clause-some : goal.page_back-page-requires-clause-some
+page_back-page-requires-clause-some g c = some_back c.requires.kept
+
+pub page_back-page-requires-clause-few : goal.page_back-page-requires-clause-few
+page_back-page-requires-clause-few g c = few_back _ c.requires.index_within.kept
+
+pub look-requires-clause-room : goal.look-requires-clause-room
+look-requires-clause-room g c = c.requires.listing ∙ sym c.requires.index.page
+
+pub look-requires-clause-size : goal.look-requires-clause-size
+look-requires-clause-size g c = mark_fits _ _ c.requires.listing c.args.index.now.served.size
+
+pub first_in-requires : goal.first_in-requires
+first_in-requires g c = header_fits _ _ (ap length c.bytes-held.ensures ∙ (c.look.ensures.room ∙ c.requires.listing)) c.args.index.now.served.size
+
+pub entries_in-many-requires-clause-some : goal.entries_in-many-requires-clause-some
+entries_in-many-requires-clause-some g c = c.requires.some
+
+pub entries_in-many-requires-clause-few : goal.entries_in-many-requires-clause-few
+entries_in-many-requires-clause-few g c = c.requires.few
+
+pub entries_in-many-requires-clause-header : goal.entries_in-many-requires-clause-header
+entries_in-many-requires-clause-header g c = body-fits (ap length c.bytes-held.ensures ∙ (c.look.ensures.room ∙ c.requires.listing)) c.args.index.now.served.size
+
+pub entries_in-many-requires-clause-short : goal.entries_in-many-requires-clause-short
+entries_in-many-requires-clause-short g c = subst (λ (k : ℕ). k ≤ 4096) (sym (ap length c.bytes-held.ensures ∙ (c.look.ensures.room ∙ c.requires.listing))) c.args.index.now.small_pages
+
+pub has_entries-requires-clause-lies : goal.has_entries-requires-clause-lies
+has_entries-requires-clause-lies g c = lies_still c.args.rows.now (g.F.Flash.state c.args.flash.now) (g.F.Flash.state c.look.new.flash) c.requires.rows c.look.ensures.reads.goes
+
+pub has_entries-requires-clause-room : goal.has_entries-requires-clause-room
+has_entries-requires-clause-room g c = c.requires.room
+
+pub has_entries-requires-clause-within : goal.has_entries-requires-clause-within
+has_entries-requires-clause-within g c = c.requires.rows_within
+
+pub has_entries-requires-clause-some : goal.has_entries-requires-clause-some
+has_entries-requires-clause-some g c = c.requires.some
+
+pub has_entries-requires-clause-few : goal.has_entries-requires-clause-few
+has_entries-requires-clause-few g c = c.requires.few
+
+pub has_entries-requires-clause-entries : goal.has_entries-requires-clause-entries
+has_entries-requires-clause-entries g c = c.entries_in-many.ensures.room
+
+pub has_entries-requires-clause-short : goal.has_entries-requires-clause-short
+has_entries-requires-clause-short g c = subst (λ (k : ℕ). k ≤ 4096) (sym (ap length c.bytes-held.ensures ∙ (c.look.ensures.room ∙ c.requires.listing))) c.args.index.now.small_pages

@@ -1,17 +1,19 @@
-use Rattle.std.proofs.Common.{◌≡◌, ℕ, IsTrue, ap, subst}
+use Rattle.std.proofs.Common.{◌≡◌, ℕ, IsTrue, ap, subst, sym, ◌∙◌}
 use Rattle.std.proofs.lemmas.Result.{err_from_is_err_and}
 use Rattle.fl_flash.specs.Flash.{page_at}
 use Rattle.fl_rules.specs.ContentPage.{IsContentPage}
-use Rattle.fl_rules.specs.RingRules.{NoRows, IsRingSound}
-use Rattle.fl_check.specs.Whole.{OfRing, shape_in, tally_in, AreRowsSound, IsVarSound, IsLogSound, BreaksVarBy, BreaksLogRing}
-use Rattle.fl_check.specs.declared.finding.RingName.TheVariants.{Var, Log}
+use Rattle.fl_rules.specs.RingRules.{NoRows, IsRingSound, OverPages, BreaksRing}
+use Rattle.fl_check.specs.Whole.{OfRing, shape_in, tally_in, AreRowsSound, IsVarSound, IsLogSound, BreaksVarBy, BreaksLogRing, IsRowsForm, rows_shape, layout_in, index_end}
+use Rattle.fl_check.specs.declared.finding.RingName.TheVariants.{Var, Log, Data}
 use Rattle.fl_rules.specs.declared.tally.Tally.{Tally}
 use Rattle.fl_check.proofs.Halts.{found_so, failed_so}
 use Rattle.fl_frame.proofs.ReadsInTurn.{looks_more}
 use Rattle.fl_rules.proofs.LooksChangeNothing.{seen, fails_later}
 use Rattle.fl_check.proofs.PlacesStay.{fits_still, log_still}
 use Rattle.fl_check.proofs.RingsKnown.{rows_known, tally_known}
-use Rattle.fl_check.proofs.Wholes.{var_fault, log_fault}
+use Rattle.fl_check.proofs.Wholes.{var_fault, log_fault, index_fault, rows_fault}
+use Rattle.fl_rules.proofs.Results.{no_fault, same_fault}
+use Rattle.fl_check.proofs.PowersOff.{by_ring, off_still}
 use Rattle.fl_check.proofs.table.Checked.check_rings.Goals as goal
 
 pub returns-in_err-var-clause-broken : goal.returns-in_err-var-clause-broken
@@ -381,3 +383,78 @@ returns-in_err-log-clause-fails g c =
 
 pub returns-clause-room : goal.returns-clause-room
 returns-clause-room g c = c.check_log.ensures.room
+
+pub returns-in_err-index-clause-looks : goal.returns-in_err-index-clause-looks
+returns-in_err-index-clause-looks g c = c.check_index.ensures.looks
+
+pub returns-in_err-index-clause-off : goal.returns-in_err-index-clause-off
+returns-in_err-index-clause-off g c =
+    let p = err_from_is_err_and c.from_residual.result c.from_residual.ensures.1 in
+    rw (p.1, p.2) (λ off. by_ring c.args.self.now.config.now.index _
+    (λ some. let both = c.in_err-index.ensures.off some off in (same_fault both.0, both.1))
+    (λ none. absurd (no_fault (sym (c.in_err-index.ensures.none none).0))))
+
+pub returns-in_err-end-clause-off : goal.returns-in_err-end-clause-off
+returns-in_err-end-clause-off g c =
+    let p = err_from_is_err_and c.from_residual-in_err-end.result c.from_residual-in_err-end.ensures.1 in
+    rw (p.1, p.2) (λ off. by_ring c.args.self.now.config.now.index _
+    (λ some. absurd (no_fault (c.in_ok-index.ensures.off some off).0))
+    (λ none. absurd (no_fault (sym (c.in_err-end.ensures.none none).0))))
+
+pub returns-in_err-rows-clause-off : goal.returns-in_err-rows-clause-off
+returns-in_err-rows-clause-off g c =
+    let p = err_from_is_err_and c.from_residual-in_err-rows.result c.from_residual-in_err-rows.ensures.1 in
+    rw (p.1, p.2) (λ off. by_ring c.args.self.now.config.now.index _
+    (λ some. absurd (no_fault (c.in_ok-index.ensures.off some off).0))
+    (λ none.
+    let both = c.in_err-rows.ensures.off (off_still (g.F.Flash.state c.args.flash.now) (g.F.Flash.state c.check_index.new.flash) (g.F.Flash.state c.find_index_end.new.flash) c.check_index.ensures.looks c.find_index_end.ensures.looks off) in
+    (same_fault both.0, both.1 ∙ (c.in_ok-end.ensures.none none).1 ∙ (c.in_ok-index.ensures.none none).1)))
+
+pub returns-in_err-tally-clause-off : goal.returns-in_err-tally-clause-off
+returns-in_err-tally-clause-off g c = λ off. absurd (no_fault (c.in_ok-rows.ensures.off (off_still (g.F.Flash.state c.args.flash.now) (g.F.Flash.state c.check_index.new.flash) (g.F.Flash.state c.find_index_end.new.flash) c.check_index.ensures.looks c.find_index_end.ensures.looks off)).0)
+
+pub returns-in_err-var-clause-off : goal.returns-in_err-var-clause-off
+returns-in_err-var-clause-off g c = λ off. absurd (no_fault (c.in_ok-rows.ensures.off (off_still (g.F.Flash.state c.args.flash.now) (g.F.Flash.state c.check_index.new.flash) (g.F.Flash.state c.find_index_end.new.flash) c.check_index.ensures.looks c.find_index_end.ensures.looks off)).0)
+
+pub returns-in_err-log-clause-off : goal.returns-in_err-log-clause-off
+returns-in_err-log-clause-off g c = λ off. absurd (no_fault (c.in_ok-rows.ensures.off (off_still (g.F.Flash.state c.args.flash.now) (g.F.Flash.state c.check_index.new.flash) (g.F.Flash.state c.find_index_end.new.flash) c.check_index.ensures.looks c.find_index_end.ensures.looks off)).0)
+
+pub returns-clause-off : goal.returns-clause-off
+returns-clause-off g c = λ off. absurd (no_fault (c.in_ok-rows.ensures.off (off_still (g.F.Flash.state c.args.flash.now) (g.F.Flash.state c.check_index.new.flash) (g.F.Flash.state c.find_index_end.new.flash) c.check_index.ensures.looks c.find_index_end.ensures.looks off)).0)
+
+pub tally_rows-requires-clause-within : goal.tally_rows-requires-clause-within
+tally_rows-requires-clause-within g c = c.in_ok-rows.ensures.within
+
+pub check_log-requires-clause-fits : goal.check_log-requires-clause-fits
+check_log-requires-clause-fits g c = fits_still c.args.self.now.config.now (g.F.Flash.state c.args.flash.now) (g.F.Flash.state c.check_var.new.flash) (looks_more _ _ _ (looks_more _ _ _ (looks_more _ _ _ (looks_more _ _ _ c.check_index.ensures.looks c.find_index_end.ensures.looks) c.check_data.ensures.looks) c.tally_rows.ensures.looks) c.check_var.ensures.looks) c.requires.fits
+
+pub returns-clause-index : goal.returns-clause-index
+returns-clause-index g c = c.in_ok-index.ensures.within
+
+pub returns-clause-rows : goal.returns-clause-rows
+returns-clause-rows g c = c.in_ok-rows.ensures.within
+
+pub returns-clause-var : goal.returns-clause-var
+returns-clause-var g c = c.in_ok-var.ensures.within
+
+pub returns-in_err-index-clause-broken : goal.returns-in_err-index-clause-broken
+returns-in_err-index-clause-broken g c =
+    let config = c.args.self.now.config.now in
+    let first = g.F.Flash.state c.args.flash.now in
+    let p = err_from_is_err_and c.from_residual.result c.from_residual.ensures.1 in
+    rw (p.1, p.2) (found_so _ _ c.in_err-index.field-0.0 (λ fault is told. index_fault config c.args.self.now.log (page_at first) fault (is told)) c.in_err-index.ensures.broken)
+
+pub returns-in_err-rows-clause-broken : goal.returns-in_err-rows-clause-broken
+returns-in_err-rows-clause-broken g c =
+    let config = c.args.self.now.config.now in
+    let first = g.F.Flash.state c.args.flash.now in
+    let listed = g.F.Flash.state c.check_index.new.flash in
+    let ended = g.F.Flash.state c.find_index_end.new.flash in
+    let index = c.in_ok-index.index in
+    let to_end = looks_more first listed ended c.check_index.ensures.looks c.find_index_end.ensures.looks in
+    let p = err_from_is_err_and c.from_residual-in_err-rows.result c.from_residual-in_err-rows.ensures.1 in
+    rw (p.1, p.2) (found_so _ _ c.in_err-rows.field-0.0
+    (λ fault is told. rows_fault config c.args.self.now.log (page_at first) index c.in_ok-end.end fault (c.in_ok-index.ensures.sound told)
+    (seen first listed (λ page. c.in_ok-end.end ≡ index_end config page index) c.check_index.ensures.looks c.in_ok-end.ensures.end told)
+    (seen first ended (λ page. (fault.ring ≡ Data) × BreaksRing (IsRowsForm config) (OverPages (layout_in config)) page (rows_shape config) c.in_ok-end.end fault.rule fault.page) to_end is told))
+    c.in_err-rows.ensures.broken)

@@ -1,4 +1,4 @@
-use Rattle.std.proofs.Common.{◌≡◌, MatchOption, sym, ◌∙◌, ap, subst}
+use Rattle.std.proofs.Common.{◌≡◌, MatchOption, sym, ◌∙◌, ap, subst, IsTrue, Option, is_some, refl}
 use Rattle.fl_base.specs.declared.types.Geometry.{Geometry}
 use Rattle.fl_flash.specs.Flash.{page_at}
 use Rattle.fl_index.specs.declared.page.EntryForm.{EntryForm}
@@ -12,6 +12,7 @@ use Rattle.fl_check.specs.Whole.{shape_in, rows_shape, layout_in}
 use Rattle.fl_check.proofs.RulesTold.{if_ok_both, told_of}
 use Rattle.fl_frame.proofs.ReadsInTurn.{looks_by}
 use Rattle.fl_check.proofs.TableRings.{room_in, room_back, within, some_blocks, some_lies}
+use Rattle.fl_base.specs.declared.types.RingPlace.{RingPlace}
 use Rattle.fl_check.proofs.table.Checked.find_misentered.Goals as goal
 
 pub returns-clause-entries : goal.returns-clause-entries
@@ -85,3 +86,21 @@ returns-clause-room g c =
 
 pub returns-clause-fails : goal.returns-clause-fails
 returns-clause-fails g c = c.check_entries.ensures.fails
+
+pub entry_form-requires-clause-limits : goal.entry_form-requires-clause-limits
+entry_form-requires-clause-limits g c = c.requires.fits.limits
+
+pub entry_form-requires-clause-index : goal.entry_form-requires-clause-index
+entry_form-requires-clause-index g c = subst (λ (o : Option RingPlace). IsTrue (is_some o)) (sym c.requires.place) refl
+
+pub check_entries-requires-clause-index : goal.check_entries-requires-clause-index
+check_entries-requires-clause-index g c = c.unnumbered-index.ensures.lies
+
+pub check_entries-requires-clause-rows : goal.check_entries-requires-clause-rows
+check_entries-requires-clause-rows g c = c.unnumbered-rows.ensures.lies
+
+pub check_entries-requires-clause-some : goal.check_entries-requires-clause-some
+check_entries-requires-clause-some g c = c.entry_form.ensures.some
+
+pub check_entries-requires-clause-few : goal.check_entries-requires-clause-few
+check_entries-requires-clause-few g c = c.entry_form.ensures.few

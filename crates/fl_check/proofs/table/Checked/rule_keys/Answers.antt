@@ -9,14 +9,16 @@ use Rattle.fl_schema.specs.Schema.{layout_of}
 use Rattle.fl_rules.specs.Rising.{KeysAscend, KeysBreak, HaveRows}
 use Rattle.fl_check.specs.Whole.{rows_shape, layout_in}
 use Rattle.fl_rules.specs.declared.rule.Rule.TheVariants.{Keys}
-use Rattle.fl_check.proofs.RulesTold.{if_told}
+use Rattle.fl_check.proofs.RulesTold.{if_told, fails_told}
 use Rattle.fl_rules.proofs.Stops.{if_ok}
 use Rattle.fl_check.proofs.TableTold.{keys_at}
 use Rattle.fl_rules.specs.declared.numbering.Numbering.{Numbering}
-use Rattle.fl_check.proofs.TableRings.{room_back}
+use Rattle.fl_check.proofs.TableRings.{room_back, room_in, within}
 use Rattle.fl_frame.proofs.ReadsInTurn.{looks_none, looks_by}
 use Rattle.fl_rules.specs.RingRules.{OverPages}
 use Rattle.fl_check.specs.Ruled.{KeysTold}
+use Rattle.fl_check.proofs.PowersOff.{schema-fits}
+use Rattle.std.proofs.lemmas.Option.{MatchOption-at_some}
 use Rattle.fl_check.proofs.table.Checked.rule_keys.Goals as goal
 
 pub returns-clause-keys : goal.returns-clause-keys
@@ -58,3 +60,19 @@ returns-clause-looks g c = looks_by (g.F.Flash.state c.args.flash.now) (g.F.Flas
 
 pub returns-clause-room : goal.returns-clause-room
 returns-clause-room g c = room_back c.args.self.now.config.now (g.F.Flash.state c.args.flash.now) c.requires.fits c.args.self.now.config.now.rows (shape_of c.unnumbered-ring.result) c.unnumbered-ring.ensures.shape c.check_keys.ensures.room
+
+pub returns-clause-fails : goal.returns-clause-fails
+returns-clause-fails g c = fails_told c.check_keys.result c.first_page.result _ c.first_page.ensures c.check_keys.ensures.fails
+
+pub check_keys-requires : goal.check_keys-requires
+check_keys-requires g c =
+    let config = c.args.self.now.config.now in (
+      schema-fits,
+      (
+        c.unnumbered-ring.ensures.lies,
+        (
+          room_in config (g.F.Flash.state c.args.flash.now) c.requires.fits config.rows (shape_of c.unnumbered-ring.result) c.unnumbered-ring.ensures.shape c.requires.room,
+          within config (g.F.Flash.state c.args.flash.now) c.requires.fits config.rows (shape_of c.unnumbered-ring.result) c.unnumbered-ring.ensures.shape c.in-Some.n.marks (MatchOption-at_some _ _ c.in-Some.n c.in-Some.is c.requires.within),
+        ),
+      ),
+    )

@@ -18,6 +18,7 @@ use Rattle.fl_check.proofs.TableTold.{keyless, rows_told}
 use Rattle.std.proofs.lemmas.Result.{err_from_is_err_and}
 use Rattle.fl_frame.proofs.ReadsInTurn.{looks_more}
 use Rattle.fl_check.proofs.TableRings.{room_in, room_back}
+use Rattle.fl_rules.proofs.Results.{no_fault, same_fault}
 use Rattle.fl_check.proofs.table.Checked.rule_rows.Goals as goal
 
 pub returns-clause-rules : goal.returns-clause-rules
@@ -119,3 +120,14 @@ returns-clause-room g c = c.rule_keys.ensures.room
 
 pub returns-clause-fails : goal.returns-clause-fails
 returns-clause-fails g c = tt
+
+pub returns-in_err-told-clause-off : goal.returns-in_err-told-clause-off
+returns-in_err-told-clause-off g c =
+    let p = err_from_is_err_and c.from_residual.result c.from_residual.ensures.1 in
+    rw (p.1, p.2) (λ off. let both = c.in_err-told.ensures.off off in (same_fault both.0, both.1))
+
+pub returns-in_err-keys-clause-off : goal.returns-in_err-keys-clause-off
+returns-in_err-keys-clause-off g c = λ off. absurd (no_fault (c.in_ok-told.ensures.off off).0)
+
+pub returns-clause-off : goal.returns-clause-off
+returns-clause-off g c = λ off. absurd (no_fault (c.in_ok-told.ensures.off off).0)

@@ -1,4 +1,4 @@
-use Rattle.std.proofs.Common.{◌≡◌, ℕ, Option, None, IfSome, sym, ap, subst}
+use Rattle.std.proofs.Common.{◌≡◌, ℕ, Option, None, IfSome, sym, ap, subst, ◌∙◌}
 use Rattle.std.proofs.lemmas.Result.{err_from_is_err_and}
 use Rattle.fl_flash.specs.Flash.{page_at}
 use Rattle.fl_rules.specs.ContentPage.{IsContentPage}
@@ -17,6 +17,9 @@ use Rattle.fl_frame.proofs.ReadsInTurn.{looks_more}
 use Rattle.fl_rules.proofs.LooksChangeNothing.{seen, fails_later}
 use Rattle.fl_check.proofs.PlacesStay.{fits_still, log_still}
 use Rattle.fl_check.proofs.TableTold.{rows_told, content_told, if_in_order, none_within, no_content, are_rules}
+use Rattle.fl_rules.proofs.Results.{no_fault, same_fault}
+use Rattle.fl_check.proofs.PowersOff.{by_ring, off_still}
+use Rattle.std.proofs.lemmas.Bool.{false≢true}
 use Rattle.fl_check.proofs.table.Checked.rules.Goals as goal
 
 pub rule_entries-requires-clause-rows : goal.rule_entries-requires-clause-rows
@@ -264,3 +267,59 @@ pub returns-in_err-blob-clause-fails : goal.returns-in_err-blob-clause-fails
 returns-in_err-blob-clause-fails g c =
     let p = err_from_is_err_and c.from_residual-in_err-blob.result c.from_residual-in_err-blob.ensures.1 in
     rw (p.1, p.2) (fails_later (g.F.Flash.state c.args.flash.now) (g.F.Flash.state c.rule_entries.new.flash) (g.F.Flash.state c.rule_blobs.new.flash) c.in_err-blob.field-0.0 (looks_more _ _ _ (looks_more _ _ _ (looks_more _ _ _ (looks_more _ _ _ (looks_more _ _ _ (looks_more _ _ _ c.rule_index.ensures.looks c.find_index_end.ensures.looks) c.rule_rows.ensures.looks) c.tally_told.ensures.looks) c.rule_var.ensures.looks) c.rule_log.ensures.looks) c.rule_entries.ensures.looks) c.in_err-blob.ensures.fails)
+
+pub returns-in_err-index-clause-looks : goal.returns-in_err-index-clause-looks
+returns-in_err-index-clause-looks g c = c.rule_index.ensures.looks
+
+pub returns-in_err-index-clause-off : goal.returns-in_err-index-clause-off
+returns-in_err-index-clause-off g c =
+    let p = err_from_is_err_and c.from_residual.result c.from_residual.ensures.1 in
+    rw (p.1, p.2) (λ off. by_ring c.args.self.now.config.now.index _
+    (λ some. let both = c.in_err-index.ensures.off some off in (same_fault both.0, both.1))
+    (λ none. absurd (false≢true (c.in_err-index.ensures.none none).0)))
+
+pub returns-in_err-end-clause-off : goal.returns-in_err-end-clause-off
+returns-in_err-end-clause-off g c =
+    let p = err_from_is_err_and c.from_residual-in_err-end.result c.from_residual-in_err-end.ensures.1 in
+    rw (p.1, p.2) (λ off. by_ring c.args.self.now.config.now.index _
+    (λ some. absurd (no_fault (c.in_ok-index.ensures.off some off).0))
+    (λ none. absurd (no_fault (sym (c.in_err-end.ensures.none none).0))))
+
+pub returns-in_err-rows-clause-off : goal.returns-in_err-rows-clause-off
+returns-in_err-rows-clause-off g c =
+    let p = err_from_is_err_and c.from_residual-in_err-rows.result c.from_residual-in_err-rows.ensures.1 in
+    rw (p.1, p.2) (λ off. by_ring c.args.self.now.config.now.index _
+    (λ some. absurd (no_fault (c.in_ok-index.ensures.off some off).0))
+    (λ none.
+    let both = c.in_err-rows.ensures.off (off_still (g.F.Flash.state c.args.flash.now) (g.F.Flash.state c.rule_index.new.flash) (g.F.Flash.state c.find_index_end.new.flash) c.rule_index.ensures.looks c.find_index_end.ensures.looks off) in
+    (same_fault both.0, both.1 ∙ (c.in_ok-end.ensures.none none).1 ∙ (c.in_ok-index.ensures.none none).1)))
+
+pub returns-in_err-tally-clause-off : goal.returns-in_err-tally-clause-off
+returns-in_err-tally-clause-off g c = λ off. absurd (no_fault (c.in_ok-rows.ensures.off (off_still (g.F.Flash.state c.args.flash.now) (g.F.Flash.state c.rule_index.new.flash) (g.F.Flash.state c.find_index_end.new.flash) c.rule_index.ensures.looks c.find_index_end.ensures.looks off)).0)
+
+pub returns-in_err-var-clause-off : goal.returns-in_err-var-clause-off
+returns-in_err-var-clause-off g c = λ off. absurd (no_fault (c.in_ok-rows.ensures.off (off_still (g.F.Flash.state c.args.flash.now) (g.F.Flash.state c.rule_index.new.flash) (g.F.Flash.state c.find_index_end.new.flash) c.rule_index.ensures.looks c.find_index_end.ensures.looks off)).0)
+
+pub returns-in_err-log-clause-off : goal.returns-in_err-log-clause-off
+returns-in_err-log-clause-off g c = λ off. absurd (no_fault (c.in_ok-rows.ensures.off (off_still (g.F.Flash.state c.args.flash.now) (g.F.Flash.state c.rule_index.new.flash) (g.F.Flash.state c.find_index_end.new.flash) c.rule_index.ensures.looks c.find_index_end.ensures.looks off)).0)
+
+pub returns-in_err-entry-clause-off : goal.returns-in_err-entry-clause-off
+returns-in_err-entry-clause-off g c = λ off. absurd (no_fault (c.in_ok-rows.ensures.off (off_still (g.F.Flash.state c.args.flash.now) (g.F.Flash.state c.rule_index.new.flash) (g.F.Flash.state c.find_index_end.new.flash) c.rule_index.ensures.looks c.find_index_end.ensures.looks off)).0)
+
+pub returns-in_err-blob-clause-off : goal.returns-in_err-blob-clause-off
+returns-in_err-blob-clause-off g c = λ off. absurd (no_fault (c.in_ok-rows.ensures.off (off_still (g.F.Flash.state c.args.flash.now) (g.F.Flash.state c.rule_index.new.flash) (g.F.Flash.state c.find_index_end.new.flash) c.rule_index.ensures.looks c.find_index_end.ensures.looks off)).0)
+
+pub returns-clause-off : goal.returns-clause-off
+returns-clause-off g c = λ off. absurd (no_fault (c.in_ok-rows.ensures.off (off_still (g.F.Flash.state c.args.flash.now) (g.F.Flash.state c.rule_index.new.flash) (g.F.Flash.state c.find_index_end.new.flash) c.rule_index.ensures.looks c.find_index_end.ensures.looks off)).0)
+
+pub find_index_end-requires-clause-within : goal.find_index_end-requires-clause-within
+find_index_end-requires-clause-within g c = c.in_ok-index.ensures.within
+
+pub tally_told-requires-clause-within : goal.tally_told-requires-clause-within
+tally_told-requires-clause-within g c = c.in_ok-rows.ensures.within
+
+pub rule_log-requires-clause-fits : goal.rule_log-requires-clause-fits
+rule_log-requires-clause-fits g c = fits_still c.args.self.now.config.now (g.F.Flash.state c.args.flash.now) (g.F.Flash.state c.rule_var.new.flash) (looks_more _ _ _ (looks_more _ _ _ (looks_more _ _ _ (looks_more _ _ _ c.rule_index.ensures.looks c.find_index_end.ensures.looks) c.rule_rows.ensures.looks) c.tally_told.ensures.looks) c.rule_var.ensures.looks) c.requires.fits
+
+pub rule_entries-requires-clause-index : goal.rule_entries-requires-clause-index
+rule_entries-requires-clause-index g c = c.in_ok-index.ensures.within
