@@ -1,17 +1,17 @@
 // The sizes of a table.
-ghost use Rattle.std.specs.Prelude.{◌≡◌, ◌≤◌, ◌^◌, ◌-◌, ◌/◌, ◌+◌, IfSome, IsTrue, if◌then◌else◌};
+ghost use Rattle.std.specs.Prelude.{◌≡◌, ◌≤◌, ◌^◌, ◌*◌, ◌-◌, ◌/◌, ◌+◌, IfSome, IsTrue, is_some, if◌then◌else◌};
 ghost use Rattle.fl_bitmap.specs.Widths.{is_bits};
 ghost use Rattle.fl_model.specs.Record.{rows_per_page};
 ghost use Rattle.fl_plan.specs.Limits.{IsRingSize, IsWithinLimits};
 ghost use Rattle.fl_plan.specs.Plan.{Label, blocks_in, plan_of_table, with_log};
-ghost use Rattle.fl_sizing.specs.Sizes.{pages_kept, rows_kept, index_pages, index_blocks, blob_bytes, blocks_wanted, table_memory, rows_read, index_reads, var_reads, log_reads, full_reads, most_reads, sizes_of};
+ghost use Rattle.fl_sizing.specs.Sizes.{one_if, pages_kept, rows_kept, index_pages, index_blocks, blob_bytes, blocks_wanted, table_memory, rows_read, index_reads, var_reads, log_reads, full_reads, most_reads, sizes_of};
 
 use crate::rings::{blocks_for, end_reads, least_pages, most_pages, rounded_up};
 use fl_base::RingPlace;
 use fl_plan::TableConfig;
 
 /// What follows for a table from its line, in bytes, rows, pages, blocks and reads.
-#[derive(Clone, Copy, Debug, PartialEq, Eq)]
+#[derive(Clone, Copy)]
 pub struct TableSizes {
     /// The bytes of a row.
     pub row_bytes: u64,
@@ -140,6 +140,29 @@ pub(crate) fn blocks_wanted(config: &TableConfig, log: Option<RingPlace>) -> u64
         + log_blocks(log)
 }
 
+/// The bytes of memory that it takes for a page of each of its blocks.
+fn page_memory(config: &TableConfig, log: Option<RingPlace>) -> u64
+    requires limits { IsWithinLimits config.now }
+    requires log { IfSome log IsRingSize }
+    ensures exact { result ≡ 3 * config.now.rows.blocks + 9 * blocks_in config.now.index + blocks_in config.now.var + blocks_in log }
+    ensures few { result ≤ 229376 }
+{
+    3 * u64::from(config.rows.blocks)
+        + 9 * u64::from(config.index_blocks())
+        + u64::from(config.var_blocks())
+        + log_blocks(log)
+}
+
+/// How many rings it has, with its log.
+fn rings(config: &TableConfig, log: Option<RingPlace>) -> u64
+    ensures exact { result ≡ 1 + one_if (is_some config.now.index) + one_if (is_some config.now.var) + one_if (is_some log) }
+    ensures few { result ≤ 4 }
+{
+    1 + u64::from(config.index.is_some())
+        + u64::from(config.var.is_some())
+        + u64::from(log.is_some())
+}
+
 /// The bytes of memory that it takes.
 pub(crate) fn memory(config: &TableConfig, log: Option<RingPlace>) -> u64
     requires limits { IsWithinLimits config.now }
@@ -147,15 +170,8 @@ pub(crate) fn memory(config: &TableConfig, log: Option<RingPlace>) -> u64
     ensures exact { (label : Label) → result ≡ table_memory (with_log (blocks_in log) (plan_of_table label config.now)) }
     ensures few { result ≤ 2 ^ 32 }
 {
-    let blocks = 3 * u64::from(config.rows.blocks)
-        + 9 * u64::from(config.index_blocks())
-        + u64::from(config.var_blocks())
-        + log_blocks(log);
-    let rings = 1
-        + u64::from(config.index.is_some())
-        + u64::from(config.var.is_some())
-        + u64::from(log.is_some());
-    blocks * u64::from(config.geometry.block) + rings * u64::from(config.geometry.page)
+    page_memory(config, log) * u64::from(config.geometry.block)
+        + rings(config, log) * u64::from(config.geometry.page)
 }
 
 /// The data pages that a mount of full rings without void pages reads: all of them, or where index entries are full those that no

@@ -5,7 +5,7 @@ ghost use Rattle.fl_words.specs.Grammar as grammar;
 ghost use Rattle.fl_sizing.specs.Words.{plan_named, interval_named};
 
 /// A plan, perhaps with the seconds between two rows.
-#[derive(Clone, Copy, Debug, PartialEq, Eq)]
+#[derive(Clone, Copy)]
 pub struct PlanJob {
     /// From 1 to 1,000,000.
     pub interval: Option<u64>,
