@@ -3,3 +3,4 @@ pub mod Untouched
 pub mod Parts
 pub mod LinesInTurn
 pub mod LongLinesLeft
+pub mod Rooms

@@ -1,9 +1,10 @@
-use Rattle.std.proofs.Common.{◌≡◌, ◌≤◌, length, refl, sym, ◌∙◌, ap, subst, false, Some, take, rules, arith}
+use Rattle.std.proofs.Common.{◌≡◌, ◌<◌, ◌≤◌, length, refl, sym, ◌∙◌, ap, subst, false, Some, take, rules, arith}
 use Rattle.std.specs.Prelude.{slice_get}
 use Rattle.fl_base.specs.declared.stream.SourceFailed.{SourceFailed}
 use Rattle.fl_lines.specs.Stream.{LinesState, IsOneLine}
 use Rattle.fl_lines.proofs.Pieces.{advances-line}
 use Rattle.fl_lines.proofs.LongLinesLeft.{leaves-rest}
+use Rattle.fl_lines.proofs.Rooms.{few-behind, few-none, line-short, none-ahead}
 use Rattle.fl_lines.proofs.Untouched.{untouched-first, untouched-source, untouched-more, needs-more, told-more}
 use Rattle.fl_lines.proofs.lines.Lines.advance.Goals as goal
 
@@ -71,3 +72,24 @@ returns-then-len-eq-ROOM-clause-behind g c = λ given long left is.
     let i = c.bytes.invariant in
     let t = i.told left is in
     leaves-rest _ _ _ c.bytes.self _ _ c.give_rest.ensures i.is_open i.most (subst (λ a. length a ≤ c.bytes.self.most) c.ahead-ahead.ensures.value c.ahead-ahead.ensures.few) t.1 t.2
+
+pub give_line-requires : goal.give_line-requires
+give_line-requires g c = subst (λ a. c.in-Some.len < length a) c.ahead-ahead.ensures.value c.in-Some.ensures.0
+
+pub returns-in-Some-clause-few : goal.returns-in-Some-clause-few
+returns-in-Some-clause-few g c = few-behind c.bytes.self _ c.in-Some.len c.give_line.ensures (subst (λ a. length a ≤ 4097) c.ahead-ahead.ensures.value c.ahead-ahead.ensures.room)
+
+pub returns-in-Some-clause-behind : goal.returns-in-Some-clause-behind
+returns-in-Some-clause-behind g c = λ given long left is. line-short c.bytes.self _ c.in-Some.len c.give_line.ensures (subst (λ a. c.in-Some.len < length a) c.ahead-ahead.ensures.value c.in-Some.ensures.0) (subst (λ a. length a ≤ 4097) c.ahead-ahead.ensures.value c.ahead-ahead.ensures.room) long
+
+pub returns-then-len-eq-ROOM-clause-few : goal.returns-then-len-eq-ROOM-clause-few
+returns-then-len-eq-ROOM-clause-few g c = few-none c.bytes.self _ c.give_rest.ensures
+
+pub ask_for_more-requires-clause-is_open : goal.ask_for_more-requires-clause-is_open
+ask_for_more-requires-clause-is_open g c = c.bytes.invariant.is_open
+
+pub returns-then-len-self-clause-few : goal.returns-then-len-self-clause-few
+returns-then-len-self-clause-few g c = c.ask_for_more.ensures.few
+
+pub returns-in-Ok-eq0-clause-few : goal.returns-in-Ok-eq0-clause-few
+returns-in-Ok-eq0-clause-few g c = none-ahead _ c.close.ensures.nothing

@@ -1,8 +1,10 @@
-use Rattle.std.proofs.Common.{◌≡◌, ◌-◌, ◌≤◌, ◌<◌, ◌++◌, length, take, drop, refl, sym, ◌∙◌, ap, arith}
+use Rattle.std.proofs.Common.{◌≡◌, ℕ, ◌-◌, ◌≤◌, ◌<◌, ◌++◌, length, take, drop, refl, sym, ◌∙◌, ap, subst, arith}
 use Rattle.std.proofs.lemmas.List.{length-take-le, length-drop}
+use Rattle.std.proofs.lemmas.Result.{err_from_is_err_and}
 use Rattle.fl_base.specs.declared.stream.SourceFailed.{SourceFailed}
 use Rattle.fl_lines.specs.Stream.{LinesState}
 use Rattle.fl_lines.proofs.Pieces.{front-read, fills, copied}
+use Rattle.fl_lines.proofs.Rooms.{few-front, room-kept}
 use Rattle.fl_lines.proofs.lines.Lines.fill.Goals as goal
 
 pub returns-clause-taken : goal.returns-clause-taken
@@ -26,3 +28,33 @@ returns-clause-taken g c =
     (front-read (take len xs) c.read.new.into _ _ len c.in_ok-count.count _ _ zs h.count refl (omega (arith, h.count, into, end.0, end.1, c.copy_within.ensures.len, c.self.invariant.0))
     ∙ ap (λ z. z ++ take c.in_ok-count.count c.read.new.into) front)
     (omega (arith, into, end.1)) h.bytes
+
+pub overflow_sub-len : goal.overflow_sub-len
+overflow_sub-len g c = c.self.invariant.3
+
+pub copy_within-requires-clause-start_le_end : goal.copy_within-requires-clause-start_le_end
+copy_within-requires-clause-start_le_end g c = c.self.invariant.3
+
+pub copy_within-requires-clause-in_bounds : goal.copy_within-requires-clause-in_bounds
+copy_within-requires-clause-in_bounds g c = subst (λ (n : ℕ). c.self.inside.to ≤ n) (sym c.self.invariant.0) c.self.invariant.4
+
+pub invariant_of-self : goal.invariant_of-self
+invariant_of-self g c = room-kept _ c.self.inside.from c.self.inside.to c.self.inside.most (c.copy_within.ensures.len ∙ c.self.invariant.0) c.self.invariant.4 c.self.invariant.5
+
+pub returns-in_err-count-clause-most : goal.returns-in_err-count-clause-most
+returns-in_err-count-clause-most g c = ap (λ (x : LinesState). x.most) c.self.view_is
+
+pub returns-in_err-count-clause-closed : goal.returns-in_err-count-clause-closed
+returns-in_err-count-clause-closed g c = ap (λ (x : LinesState). x.closed) c.self.view_is
+
+pub returns-in_err-count-clause-longer : goal.returns-in_err-count-clause-longer
+returns-in_err-count-clause-longer g c = rw (err_from_is_err_and c.from_residual.result c.from_residual.ensures.1).1 tt
+
+pub returns-in_err-count-clause-few : goal.returns-in_err-count-clause-few
+returns-in_err-count-clause-few g c = few-front _ c.self.inside.from c.self.inside.to c.self.invariant.4
+
+pub returns-clause-most : goal.returns-clause-most
+returns-clause-most g c = ap (λ (x : LinesState). x.most) c.self.view_is
+
+pub returns-clause-closed : goal.returns-clause-closed
+returns-clause-closed g c = ap (λ (x : LinesState). x.closed) c.self.view_is
