@@ -1,6 +1,5 @@
-use Rattle.std.proofs.Common.{ℕ, ◌+◌, ◌*◌, ◌^◌, ◌≤◌, ◌<◌, List, length, sym, ◌∙◌, ap, subst}
+use Rattle.std.proofs.Common.{ℕ, ◌+◌, ◌*◌, ◌^◌, ◌≤◌, ◌<◌, List, length, sym, ◌∙◌, ap, subst, rules}
 use Rattle.fl_flash.specs.declared.flash.Work.{Work}
-use Rattle.fl_flash.specs.Buffer.{BufferState}
 use Rattle.fl_flash.specs.Places.{page_of, extent}
 use Rattle.fl_flash.specs.Sim.{on_medium, AreBlank}
 use Rattle.fl_flash.proofs.Pages.{page_within}
@@ -12,8 +11,7 @@ use Rattle.fl_flash.proofs.sim.SimFlashFlash.read.Goals as goal
 pub returns-then-not-self : goal.returns-then-not-self
 returns-then-not-self g c =
     let self = c.args.self.now in
-    read_off (on_medium self.geometry self.blocks self.start self.media.ghost_name self.on self.armed self.cuts self.work (g.M.Media.state self.media.now)) c.if-not-self.true c.args.page _ c.forget.new.self
-    (ap (λ (b : BufferState). length b.bytes) c.forget.ensures) (ap (λ (b : BufferState). b.holds) c.forget.ensures)
+    read_off (on_medium self.geometry self.blocks self.start self.media.ghost_name self.on self.armed self.cuts self.work (g.M.Media.state self.media.now)) c.if-not-self.true c.args.page _ _ (search rules) (search rules)
 
 pub overflow_mul-at : goal.overflow_mul-at
 overflow_mul-at g c =
