@@ -8,7 +8,7 @@ use fl_image::ToolStatus;
 use std::alloc::AllocError;
 
 /// Why rows aren't written to the end.
-#[derive(Clone, Copy, Debug, PartialEq, Eq)]
+#[derive(Clone, Copy)]
 pub(crate) enum SalvageFault {
     /// The medium failed.
     Media,

@@ -11,7 +11,7 @@ use fl_page::PageView;
 use fl_schema::Schema;
 
 /// What a page of a data ring is found to be.
-#[derive(Clone, Copy, Debug, PartialEq, Eq)]
+#[derive(Clone, Copy)]
 pub(crate) enum PageFound {
     /// It is committed, its number belongs to its place, and it has from one row on as many as there is room for.
     Rows,

@@ -21,7 +21,7 @@ use fl_schema::RowRef;
 use std::alloc::Global;
 
 /// What is told of the blob that a row names, whose bytes stand in the room where they are whole.
-#[derive(Clone, Copy, Debug, PartialEq, Eq)]
+#[derive(Clone, Copy)]
 enum BlobFound {
     /// The table keeps no blobs.
     Absent,
