@@ -1,5 +1,5 @@
 -- The kept index pages are taken one after another, each when the data pages came that those before it say to list.
-use Rattle.std.proofs.Common.{◌≡◌, ℕ, suc, Bool, true, false, cond, Option, Some, None, refl, unwrap_or, sym, ap, ◌+◌, ◌-◌, ◌^◌, ◌<◌, ◌≤◌, max, min, IsTrue, List, length, ◌∙◌, subst, arith}
+use Rattle.std.proofs.Common.{◌≡◌, ℕ, suc, true, cond, Option, Some, unwrap_or, sym, ap, ◌+◌, ◌-◌, ◌^◌, ◌<◌, ◌≤◌, max, min, IsTrue, List, length, ◌∙◌, subst, arith}
 use Rattle.fl_find.specs.declared.index.KeyIndex.{KeyIndex}
 use Rattle.fl_flash.specs.Flash.{FlashState}
 use Rattle.fl_frame.specs.Reads.{OnlyReads}
@@ -9,7 +9,7 @@ use Rattle.fl_index.specs.declared.index.BitmapIndex.{BitmapIndex}
 use Rattle.fl_model.specs.Record.{RowLayout}
 use Rattle.fl_ring.specs.Place.{next_of, oldest_of}
 use Rattle.fl_ring.specs.declared.ring.Ring.{Ring}
-use Rattle.fl_parts.specs.Bitmaps.{AreRunning, AreStillFound, LieOn, StaysFound}
+use Rattle.fl_parts.specs.Bitmaps.{AreRunning, LieOn, StaysFound}
 use Rattle.fl_parts.specs.ByEntries.{Come, unlisted_of}
 use Rattle.fl_parts.specs.Coming.{AreListedBefore, IsComeTo}
 use Rattle.fl_parts.specs.KeptRead.{LeavesKept}

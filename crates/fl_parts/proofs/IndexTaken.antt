@@ -1,11 +1,11 @@
 -- What is known when the next index page was taken.
-use Rattle.std.proofs.Common.{◌≡◌, ℕ, suc, true, false, is_some, unwrap_or, ◌+◌, ◌-◌, ◌^◌, ◌<◌, ◌≤◌, max, min, Option, Some, None, Result, Ok, Err, IsTrue, List, length, sym, ◌∙◌, ap, subst, refl, arith}
+use Rattle.std.proofs.Common.{◌≡◌, ℕ, suc, true, false, is_some, ◌+◌, ◌-◌, ◌^◌, ◌<◌, ◌≤◌, max, min, Option, Some, None, Result, Ok, Err, IsTrue, List, length, sym, ◌∙◌, ap, subst, arith}
 use Rattle.std.specs.Prelude.{IfErr, IfOk, IfSome, OnOk, ◌&&◌, option_map}
 use Rattle.fl_find.specs.declared.index.KeyIndex.{KeyIndex}
 use Rattle.fl_flash.specs.Flash.{FlashState}
 use Rattle.fl_index.specs.Finding.{pages_of}
 use Rattle.fl_index.specs.Loading.{HoldsEntriesOf, IsLoaded}
-use Rattle.fl_index.specs.Memory.{first_in, is_running, next_in, oldest_in, per_page, place_in, waiting_in, IsSameRing}
+use Rattle.fl_index.specs.Memory.{first_in, is_running, per_page, place_in, waiting_in, IsSameRing}
 use Rattle.fl_index.specs.Page.{first_on, full_view}
 use Rattle.fl_index.specs.Standing.{StandsBelow}
 use Rattle.fl_index.specs.declared.index.BitmapIndex.{BitmapIndex}

@@ -1,5 +1,5 @@
 -- What the parts of a read of all kept pages ask for and leave, one after another.
-use Rattle.std.proofs.Common.{inr, [], drop, ◌≡◌, ℕ, suc, ◌+◌, ◌-◌, ◌<◌, ◌≤◌, cond, true, max, min, Option, Some, None, Result, Ok, Err, List, length, IsTrue, refl, sym, ◌∙◌, ap, subst, arith}
+use Rattle.std.proofs.Common.{inr, [], drop, ◌≡◌, ℕ, suc, ◌+◌, ◌-◌, ◌<◌, ◌≤◌, cond, true, Option, Some, None, Result, Ok, Err, List, length, refl, sym, ◌∙◌, ap, subst, arith}
 use Rattle.std.specs.Option.{is_none}
 use Rattle.std.specs.Prelude.{◌^◌, IfErr}
 use Rattle.fl_base.specs.declared.types.Geometry.{Geometry}
@@ -8,9 +8,7 @@ use Rattle.fl_find.specs.declared.index.KeyIndex.{KeyIndex}
 use Rattle.fl_flash.specs.Buffer.{BufferState}
 use Rattle.fl_flash.specs.Flash.{FlashState}
 use Rattle.fl_frame.specs.Reads.{OnlyReads}
-use Rattle.fl_frame.proofs.ReadsInTurn.{no_reads, more_reads, told_still}
-use Rattle.fl_index.specs.Memory.{next_in, oldest_in}
-use Rattle.fl_index.specs.declared.index.BitmapIndex.{BitmapIndex}
+use Rattle.fl_frame.proofs.ReadsInTurn.{no_reads, more_reads}
 use Rattle.fl_mark.specs.Mark.{state_of_page}
 use Rattle.fl_mark.specs.declared.page_state.PageState.{PageState}
 use Rattle.fl_mark.specs.declared.page_state.PageState.TheVariants.{Blank, Torn, Committed, Void}
@@ -22,14 +20,11 @@ use Rattle.fl_page.specs.Header.{page_bitmap, page_count}
 use Rattle.fl_page.specs.Page.{IsGoodPage, rows_from}
 use Rattle.fl_ring.specs.Place.{next_of, oldest_of}
 use Rattle.fl_ring.specs.declared.ring.Ring.{Ring}
-use Rattle.fl_parts.specs.ByEntries.{Come, unlisted_of}
-use Rattle.fl_parts.specs.Coming.{AreRowsOf, IsComeTo}
 use Rattle.fl_parts.specs.Faults.{IfPage, is_refused}
 use Rattle.fl_parts.specs.KeptSteps.{AreFew, CountsOne, FailsReading, HasCome, HasComeBy, HasRows, Keeps, MayRead}
-use Rattle.fl_parts.specs.Knowing.{IsWithin, ReadsBut, is_waiting}
+use Rattle.fl_parts.specs.Knowing.{IsWithin, is_waiting}
 use Rattle.fl_parts.specs.Reading.{IsRead, IsRefused, bitmap_on, bitmap_where, keys_fault, last_in}
 use Rattle.fl_parts.specs.declared.known.Known.{Known}
-use Rattle.fl_parts.specs.declared.known.Listed.{Listed}
 use Rattle.fl_parts.specs.declared.load.PageRows.{PageRows}
 use Rattle.fl_parts.specs.declared.mount_fault.MountFault.{MountFault}
 use Rattle.fl_parts.proofs.KeyRows.{good-few, page-length}

@@ -4,7 +4,6 @@ use Rattle.std.specs.Prelude.{IfOk}
 use Rattle.fl_flash.specs.Flash.{FlashState}
 use Rattle.fl_frame.specs.Reads.{OnlyReads}
 use Rattle.fl_frame.proofs.ReadsInTurn.{no_reads, more_reads}
-use Rattle.fl_parts.proofs.MountProgress.{fewer-reads}
 use Rattle.fl_parts.specs.Knowing.{is_waiting, ReadsBut}
 use Rattle.fl_parts.specs.declared.known.Known.{Known}
 use Rattle.fl_parts.specs.declared.known.Listed.{Listed}

@@ -4,10 +4,10 @@ ghost use Rattle.fl_model.specs.Table.{first_of};
 ghost use Rattle.fl_find.specs.Index.{error_in, IndexOf};
 ghost use Rattle.fl_index.specs.Page.{full_view};
 ghost use Rattle.fl_spline.specs.Points.{IsFurther};
-ghost use Rattle.fl_parts.specs.ByEntries.{Come, entry, facts_on, has_rows, page_check, mount_fault};
+ghost use Rattle.fl_parts.specs.ByEntries.{Come, entry, facts_on, has_rows, mount_fault};
 ghost use Rattle.fl_parts.specs.Faults.{is_refused};
 ghost use Rattle.fl_parts.specs.KeptSteps.{IsNextPage};
-ghost use Rattle.fl_parts.specs.Knowing.{left, KnowsWith, IsWithin};
+ghost use Rattle.fl_parts.specs.Knowing.{KnowsWith, IsWithin};
 ghost use Rattle.fl_parts.specs.Reading.{rises};
 ghost use Rattle.fl_parts.specs.declared.mount_fault.MountFault.{MountFault};
 

@@ -1,4 +1,4 @@
-use Rattle.std.proofs.Common.{◌≡◌, ◌≤◌, ◌-◌, ◌+◌, ℕ}
+use Rattle.std.proofs.Common.{◌≤◌, ◌-◌, ◌+◌, ℕ}
 use Rattle.fl_frame.specs.Reads.{OnlyReads}
 use Rattle.fl_schema.specs.Schema.{layout_of}
 use Rattle.fl_parts.specs.ByEntries.{Come, unlisted_of}

@@ -12,7 +12,7 @@ use Rattle.fl_parts.proofs.Firsts.{same-first, first-loaded}
 use Rattle.fl_parts.proofs.IndexOfTable.{still-lies, still-next, still-oldest}
 use Rattle.fl_parts.proofs.IndexTaken.{bad-keeps, bad-only, bad-refused, bad-taken, nothing-taken, running-same, taken-by}
 use Rattle.fl_parts.proofs.KeptParts.{err-page, err-refused}
-use Rattle.fl_parts.proofs.ListedPages.{any-ok, below-same}
+use Rattle.fl_parts.proofs.ListedPages.{below-same}
 use Rattle.fl_parts.proofs.Untouched.{no-success}
 use Rattle.fl_parts.proofs.by_entries.take_index_page.Goals as goal
 

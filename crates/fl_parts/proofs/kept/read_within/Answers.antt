@@ -1,18 +1,8 @@
-use Rattle.std.proofs.Common.{rules, ◌≡◌, ◌+◌, ◌-◌, ◌≤◌, arith, refl, sym, ◌∙◌, subst}
+use Rattle.std.proofs.Common.{rules, ◌-◌, arith}
 use Rattle.std.proofs.lemmas.Result.{err_from_is_err_and}
 use Rattle.fl_find.specs.Index.{error_in}
-use Rattle.fl_flash.specs.Flash.{page_at}
 use Rattle.fl_frame.proofs.ReadsInTurn.{told_still}
-use Rattle.fl_model.specs.Record.{RowLayout}
-use Rattle.fl_ring.proofs.Founds.{same_pages}
-use Rattle.fl_ring.specs.Place.{next_of, oldest_of, shape_of}
-use Rattle.fl_ring.specs.Ring.{place}
 use Rattle.fl_schema.specs.Schema.{layout_of}
-use Rattle.fl_parts.specs.Bitmaps.{first_to_wait}
-use Rattle.fl_parts.specs.Coming.{WaitUnlisted}
-use Rattle.fl_parts.specs.KeptSteps.{HasCome}
-use Rattle.fl_parts.specs.Knowing.{IsWithin}
-use Rattle.fl_parts.specs.Reading.{WaitFrom, pages_of}
 use Rattle.fl_parts.proofs.Firsts.{firsts-then}
 use Rattle.fl_parts.proofs.KeptParts.{fails-then, few-still, keeps-then, may-still}
 use Rattle.fl_parts.proofs.KeptSteps.{begins, few-first, few-rest, kept-then, none-yet, wait-unlisted}

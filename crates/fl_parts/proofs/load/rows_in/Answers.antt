@@ -1,8 +1,6 @@
-use Rattle.std.proofs.Common.{◌≡◌, Option, Some, None, sym, ◌∙◌, ap, subst, inl, refl}
+use Rattle.std.proofs.Common.{◌≡◌, sym, ◌∙◌, ap, inl}
 use Rattle.std.proofs.lemmas.Result.{IfErr-weaker, IfOk-weaker}
 use Rattle.fl_find.specs.Pages.{rows_on}
-use Rattle.fl_mark.specs.Mark.{state_of_page}
-use Rattle.fl_mark.specs.declared.page_state.PageState.TheVariants.{Committed}
 use Rattle.fl_page.specs.View.{count_of, layout_of_page, page_of, rows_of}
 use Rattle.fl_schema.specs.Schema.{layout_of}
 use Rattle.fl_parts.specs.KeptSteps.{HasRows}
