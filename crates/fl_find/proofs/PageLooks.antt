@@ -13,12 +13,12 @@ use Rattle.fl_frame.proofs.ContentsInTurn.{OnlyReads-read, OnlyReads-same, OnlyR
 use Rattle.fl_page.specs.declared.fault.BadPage.{BadPage}
 use Rattle.fl_page.specs.declared.fault.ReadFault.{ReadFault}
 use Rattle.fl_page.specs.declared.fault.ReadFault.TheVariants as fault
-use Rattle.fl_ring.specs.Place.{oldest_of, shape_of}
+use Rattle.fl_ring.specs.Place.{shape_of}
 use Rattle.fl_ring.specs.Ring.{place}
 use Rattle.fl_ring.specs.declared.ring.Ring.{Ring}
-use Rattle.fl_search.specs.Search.{FailsBelow, RoseSome}
-use Rattle.fl_find.specs.Pages.{IsBadPage, IsFresh, first_on}
-use Rattle.fl_find.specs.Looking.{BlamesBelow, BlamesThis, OnlyLooks, HasBadPage, LookFails, Since, Tells}
+use Rattle.fl_search.specs.Search.{RoseSome}
+use Rattle.fl_find.specs.Pages.{IsBadPage, IsFresh}
+use Rattle.fl_find.specs.Looking.{BlamesThis, OnlyLooks, HasBadPage, LookFails, Since}
 
 pub looks-read : (old new : FlashState) (page size : ℕ) (result : Result (Unit {0}) FlashFault) (into : BufferState) → ReadsPage old page size result into new → OnlyLooks old new
 looks-read old new page size result into is = record { reads = OnlyReads-read old new page size result into is; power = is.power; cuts = is.cuts }
@@ -108,18 +108,3 @@ pub fails-on : {T : Type 0} (result : Result T ReadFault) (ring : Ring) (layout 
 fails-on (Ok x) ring layout f now layout_now a b number ring_is layout_is looks fails blames = tt
 fails-on (Err e) ring layout f now layout_now a b number ring_is layout_is looks fails blames =
     (fails-later ring layout f now layout_now a b e ring_is layout_is looks fails, blames-later ring layout f now layout_now a number e ring_is layout_is looks blames)
-
--- what a search downwards blames
-pub blames-below : (layout : RowLayout) (ring : Ring) (f g : FlashState) (oldest end_now end key : ℕ) (e : ReadFault) → oldest ≡ oldest_of ring → end_now ≡ end →
-    FailsBelow (λ told. Tells layout ring f told) (λ number. LookFails layout ring f e g × BlamesThis layout ring f number e) oldest end_now key → BlamesBelow layout ring f end key e
-blames-below layout ring f g oldest end_now end key (fault.Flash x) from to h = tt
-blames-below layout ring f g oldest end_now end key (fault.BadPage bad) from to h = λ told.
-    let least = h.within.0 in
-    let below = h.within.1 in
-    let page = h.fails in
-    record {
-      number = h.number;
-      within = (omega (arith, from, least), omega (arith, to, below));
-      is_bad = page.1 told;
-      later = λ n after before. h.later (first_on layout (shape_of ring) f) (record { told = told; each = λ m kept sound. refl }) n after (omega (arith, to, before));
-    }

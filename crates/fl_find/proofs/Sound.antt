@@ -1,5 +1,5 @@
--- Pages that a search downwards passed aren't bad: of a bad page any first key is told, and the search would not have
--- gone on over each of them.
+-- Pages that a search downwards passed aren't bad, whether it finds a page or fails at one: of a bad page any first key is
+-- told, and the search would not have gone on over each of them.
 use Rattle.std.proofs.Common.{◌≡◌, ℕ, ◌<◌, ◌≤◌, Bool, true, false, Option, Some, None, List, IsTrue, refl, sym, ap, subst, ◌∙◌, arith, Result, Ok, Err, inl, inr}
 use Rattle.std.specs.Prelude.{IfOk, OnOk, option_map, unwrap_or, nat_le, ◌==◌, if◌then◌else◌}
 use Rattle.std.proofs.lemmas.Bool.{cases_lt, eq-eqb, ne_eqb, le-leb, false≢true}
@@ -7,12 +7,13 @@ use Rattle.fl_flash.specs.Flash.{FlashState}
 use Rattle.fl_model.specs.Record.{RowLayout}
 use Rattle.fl_page.specs.declared.fault.BadPage.{BadPage}
 use Rattle.fl_page.specs.declared.fault.ReadFault.{ReadFault}
-use Rattle.fl_ring.specs.Place.{shape_of}
+use Rattle.fl_page.specs.declared.fault.ReadFault.TheVariants as fault
+use Rattle.fl_ring.specs.Place.{oldest_of, shape_of}
 use Rattle.fl_ring.specs.Ring.{place}
 use Rattle.fl_ring.specs.declared.ring.Ring.{Ring}
-use Rattle.fl_search.specs.Search.{IsPageOf, starts_by}
+use Rattle.fl_search.specs.Search.{FailsBelow, IsPageOf, starts_by}
 use Rattle.fl_find.specs.Pages.{bytes_at, rows_on, first_key, first_on, IsBadPage}
-use Rattle.fl_find.specs.Looking.{OnlyLooks, IsKept, IsSound, NoneIsBad, Tells}
+use Rattle.fl_find.specs.Looking.{BlamesBelow, BlamesThis, OnlyLooks, LookFails, IsKept, IsSound, NoneIsBad, Tells}
 use Rattle.fl_find.proofs.PageLooks.{looks-pages, looks-tell}
 
 -- a read that is Ok gives what each function tells
@@ -89,3 +90,21 @@ pub none-searched : (layout : RowLayout) (ring : Ring) (f : FlashState) (oldest 
     IsPageOf (first_on layout (shape_of ring) f) oldest end key page → NoneIsBad layout ring f (unwrap_or page oldest) end
 none-searched layout ring f oldest end key None none is = λ n from before bad is_bad. absurd (omega (arith, none, from, before))
 none-searched layout ring f oldest end key (Some p) none is = λ n from before bad is_bad. absurd (omega (arith, none, is.from, is.before))
+
+-- the page at which a search downwards fails is the newest bad one
+pub blames-below : (layout : RowLayout) (ring : Ring) (f g : FlashState) (oldest end_now end key : ℕ) (e : ReadFault) → oldest ≡ oldest_of ring → end_now ≡ end →
+    FailsBelow (λ told. Tells layout ring f told) (λ number. LookFails layout ring f e g × BlamesThis layout ring f number e) oldest end_now key → BlamesBelow layout ring f end key e
+blames-below layout ring f g oldest end_now end key (fault.Flash x) from to h = tt
+blames-below layout ring f g oldest end_now end key (fault.BadPage bad) from to h = λ told.
+    let least = h.within.0 in
+    let below = h.within.1 in
+    let page = h.fails in
+    record {
+      number = h.number;
+      within = (omega (arith, from, least), omega (arith, to, below));
+      is_bad = page.1 told;
+      later = λ n after before. h.later (first_on layout (shape_of ring) f) (record { told = told; each = λ m kept sound. refl }) n after (omega (arith, to, before));
+      sound = λ n after before other is_bad.
+          let passed = h.later (changed (first_on layout (shape_of ring) f) n (Some 0)) (tells-changed layout ring f told n other is_bad (Some 0)) n (omega (arith, after)) (omega (arith, to, before)) in
+          false≢true (sym passed ∙ starts-at_zero (first_on layout (shape_of ring) f) n key);
+    }

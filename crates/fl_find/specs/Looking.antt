@@ -1,5 +1,5 @@
 -- Calls that look at pages of a ring, and why they fail.
-use Rattle.std.specs.Prelude.{◌≡◌, ℕ, ◌≤◌, ◌<◌, false, Option, List, IsTrue}
+use Rattle.std.specs.Prelude.{◌≡◌, ℕ, ◌+◌, ◌≤◌, ◌<◌, false, Option, List, IsTrue}
 use Rattle.fl_flash.specs.Buffer.{BufferState}
 use Rattle.fl_flash.specs.Flash.{FlashState}
 use Rattle.fl_flash.specs.declared.flash.FlashFault.TheVariants.{PowerLost, Media}
@@ -43,18 +43,6 @@ abbrev pub BlamesThis : RowLayout → Ring → FlashState → ℕ → ReadFault 
 BlamesThis layout ring f number (fault.Flash e) = Unit {0}
 BlamesThis layout ring f number (fault.BadPage bad) = IsTrue f.media.tells → IsBadPage layout number (bytes_at (shape_of ring) f number) bad
 
--- a kept page before an end is bad, behind which none begins with at most a key
-pub record IsBadBelow (layout : RowLayout) (ring : Ring) (f : FlashState) (end key : ℕ) (bad : BadPage) : Type 0 where
-  pub number : ℕ
-  pub within : (oldest_of ring ≤ number) × (number < end)
-  pub is_bad : IsBadPage layout number (bytes_at (shape_of ring) f number) bad
-  pub later : (n : ℕ) → number < n → n < end → starts_by (first_on layout (shape_of ring) f) key n ≡ false
-
--- a look downwards from an end blames such a page
-abbrev pub BlamesBelow : RowLayout → Ring → FlashState → ℕ → ℕ → ReadFault → Type 0
-BlamesBelow layout ring f end key (fault.Flash e) = Unit {0}
-BlamesBelow layout ring f end key (fault.BadPage bad) = IsTrue f.media.tells → IsBadBelow layout ring f end key bad
-
 -- a page that isn't bad
 abbrev pub IsSound : RowLayout → ℕ → List ℕ → Type 0
 IsSound layout number page = (bad : BadPage) → IsBadPage layout number page bad → ⊥
@@ -62,6 +50,19 @@ IsSound layout number page = (bad : BadPage) → IsBadPage layout number page ba
 -- no page of a ring from one number to before another is bad
 abbrev pub NoneIsBad : RowLayout → Ring → FlashState → ℕ → ℕ → Type 0
 NoneIsBad layout ring f from end = (n : ℕ) → from ≤ n → n < end → IsSound layout n (bytes_at (shape_of ring) f n)
+
+-- the newest bad one of the pages that are kept before an end, behind which none begins with at most a key
+pub record IsBadBelow (layout : RowLayout) (ring : Ring) (f : FlashState) (end key : ℕ) (bad : BadPage) : Type 0 where
+  pub number : ℕ
+  pub within : (oldest_of ring ≤ number) × (number < end)
+  pub is_bad : IsBadPage layout number (bytes_at (shape_of ring) f number) bad
+  pub later : (n : ℕ) → number < n → n < end → starts_by (first_on layout (shape_of ring) f) key n ≡ false
+  pub sound : NoneIsBad layout ring f (number + 1) end
+
+-- a look downwards from an end blames that page
+abbrev pub BlamesBelow : RowLayout → Ring → FlashState → ℕ → ℕ → ReadFault → Type 0
+BlamesBelow layout ring f end key (fault.Flash e) = Unit {0}
+BlamesBelow layout ring f end key (fault.BadPage bad) = IsTrue f.media.tells → IsBadBelow layout ring f end key bad
 
 -- a function that tells the first keys of the kept pages, and anything of a bad one
 pub record Tells (layout : RowLayout) (ring : Ring) (f : FlashState) (first : ℕ → Option ℕ) : Type 0 where

@@ -6,9 +6,9 @@ use Rattle.fl_ring.specs.Place.{shape_of, oldest_of}
 use Rattle.fl_schema.specs.Schema.{layout_of}
 use Rattle.fl_find.specs.Pages.{first_on, IsFresh}
 use Rattle.fl_find.specs.Looking.{OnlyLooks, LookFails}
-use Rattle.fl_find.proofs.PageLooks.{blames-below, since-same}
+use Rattle.fl_find.proofs.PageLooks.{since-same}
 use Rattle.fl_find.proofs.Moves.{lies-looked, room-looked, holds-moved, if-some, page-moved}
-use Rattle.fl_find.proofs.Sound.{none-bad, none-searched}
+use Rattle.fl_find.proofs.Sound.{blames-below, none-bad, none-searched}
 use Rattle.fl_find.proofs.search.page_downwards.Goals as goal
 
 pub returns-clause-looks : goal.returns-clause-looks
