@@ -30,7 +30,7 @@ pub record Changes {E : Type 0} (May : ℕ → Type 0) (Outside : (ℕ → List 
   pub power : OnOk result (old.is_on ≡ true → new.is_on ≡ true)
   -- so many seals were tried at most, and no page is another but those that these may change
   pub writes : Writes May 0 most old new
-  -- each page outside the rings stands
+  -- each page outside the rings stands, where the flash tells its bytes
   pub outside : IsTrue old.media.tells → Outside (page_at old) (page_at new)
   -- nothing is read of the flash; a program may read the medium
   pub reads : new.work.reads ≡ old.work.reads
