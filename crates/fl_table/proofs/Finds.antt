@@ -246,7 +246,7 @@ lookup-fails t ring old (fault.BadPage bad) new is h = (λ told. of (h.0 told), 
       is_bad = subst (λ p. IsBadPage (layout_of t.schema) page.number (page_at old p) bad) (sym (ring-place t ring page.number is)) page.is_bad;
     }
 
--- of a covered key the page that is blamed is one that was looked at
+-- of a covered key the page that is blamed is the newest bad one that was looked at
 pub lookup-blames : {KNOTS SLOTS : ℕ} (t : Table KNOTS SLOTS) (ring : Ring) (f : FlashState) (key : ℕ) (e : ReadFault) → t.ring ≡ Some ring → BlamesBelow (layout_of t.schema) ring f (window_end t.index (next_of ring) key) key e → BlamesFor t f key e
 lookup-blames t ring f key (fault.Flash e) is h = tt
 lookup-blames t ring f key (fault.BadPage bad) is h = λ told. of (h told)
@@ -258,6 +258,8 @@ lookup-blames t ring f key (fault.BadPage bad) is h = λ told. of (h told)
       is_bad = subst (λ p. IsBadPage (layout_of t.schema) page.number (page_at f p) bad) (sym (ring-place t ring page.number is)) page.is_bad;
       later = λ n after before.
           subst (λ (first : ℕ → Option ℕ). starts_by first key n ≡ false) (sym (firsts-in t ring f key is)) (page.later n after (omega (arith, window-is t ring f key is, before)));
+      sound = λ n after before other is_bad. page.sound n after (omega (arith, window-is t ring f key is, before)) other
+          (subst (λ p. IsBadPage (layout_of t.schema) n (page_at f p) other) (ring-place t ring n is) is_bad);
     }
 
 pub row-shown : {KNOTS SLOTS : ℕ} (t : Table KNOTS SLOTS) (first : ℕ) (plan : Plan) (page : List ℕ) (view : PageView 8) (at : ℕ) (row : Row) → IsPlanned t first plan → at < length (rows_on (layout_of t.schema) page) →

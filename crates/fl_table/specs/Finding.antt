@@ -1,5 +1,5 @@
 -- What a lookup in a table finds, and how many pages it reads.
-use Rattle.std.specs.Prelude.{◌≡◌, ℕ, ◌-◌, ◌<◌, ◌≤◌, nat_le, Bool, true, false, Option, Some, None, IfSome, option_map, unwrap_or, List, IsTrue, length, Result, Ok, Err, slice_get, map, if◌then◌else◌}
+use Rattle.std.specs.Prelude.{◌≡◌, ℕ, ◌+◌, ◌-◌, ◌<◌, ◌≤◌, nat_le, Bool, true, false, Option, Some, None, IfSome, option_map, unwrap_or, List, IsTrue, length, Result, Ok, Err, slice_get, map, if◌then◌else◌}
 use Rattle.fl_find.specs.Index.{knots_in, most_reads, shift_in, window_end}
 use Rattle.fl_find.specs.Looking.{IsSound}
 use Rattle.fl_find.specs.Pages.{first_key, rows_on, IsBadPage}
@@ -191,14 +191,16 @@ pub record HasBadPage {KNOTS SLOTS : ℕ} (t : Table KNOTS SLOTS) (f : FlashStat
   pub kept : (oldest_in t ≤ number) × (number < next_in t)
   pub is_bad : IsBadPage (layout_in t) number (page_at f (place_of t number)) bad
 
--- Of a covered key it is before the end of the pages that are looked at, and none of these behind it begins with at most the key.
+-- Of a covered key it is the newest bad one of the pages before the end of its window, and none of these behind it begins with at
+-- most the key.
 pub record IsBadFor {KNOTS SLOTS : ℕ} (t : Table KNOTS SLOTS) (f : FlashState) (key : ℕ) (bad : BadPage) : Type 0 where
   pub number : ℕ
   pub within : (oldest_in t ≤ number) × (number < window_in t key)
   pub is_bad : IsBadPage (layout_in t) number (page_at f (place_of t number)) bad
   pub later : (n : ℕ) → number < n → n < window_in t key → starts_by (first_at t f) key n ≡ false
+  pub sound : NoneIsBad t f (number + 1) (window_in t key)
 
--- such a page is blamed, where the flash tells its bytes
+-- that page is blamed, where the flash tells its bytes
 abbrev pub BlamesFor : {KNOTS SLOTS : ℕ} → Table KNOTS SLOTS → FlashState → ℕ → ReadFault → Type 0
 BlamesFor t f key (fault.Flash e) = Unit {0}
 BlamesFor t f key (fault.BadPage bad) = IsTrue f.media.tells → IsBadFor t f key bad

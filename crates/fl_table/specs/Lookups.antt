@@ -36,14 +36,16 @@ pub record LooksUp {KNOTS SLOTS : ℕ} (t : Table KNOTS SLOTS) (wanted : ℕ) (o
 pub record AnswersBy {KNOTS SLOTS : ℕ} (t : Table KNOTS SLOTS) (wanted : ℕ) (old : FlashState) (buf_old : BufferState) (result : Result (Option RowAt) ReadFault) (new : FlashState) (buf_new : BufferState) : Type 0 where
   -- the row that is found has the key
   pub key : IfOk result (λ found. IfSome found (HasKeyAt t buf_new wanted))
-  -- it is one of the page that the key belongs into, or none is there; and no page that has to be read is bad
+  -- it is one of the page that the key belongs into, or none is there, which of a key that isn't covered is told where first keys
+  -- ascend; and of a covered key no page that has to be read is bad
   pub answers : IfOk result (IsAnswered t old wanted)
   -- for a pending key nothing is read, and no fault comes
   pub unread : is_pending_in t wanted ≡ true → (new ≡ old) × (buf_new ≡ buf_old) × IsTrue (is_ok result)
   -- there is a row at the place that is answered, and where it isn't pending the buffer holds its page
   pub here : IfOk result (λ found. IfSome found (IsRowAt t buf_new))
   pub holds : IfOk result (λ found. IfSome found (HoldsIts t new buf_new))
-  -- a failure has its cause, and a bad page that is named for a covered key is one of those that have to be read
+  -- a failure has its cause, and a bad page that is named for a covered key is the first one that is met: the newest bad one of the
+  -- window, and none behind it there begins with at most the key
   pub fails : IfErr result (λ e. LookupFails t old e new)
   pub blames : is_covered_in t wanted ≡ true → IfErr result (BlamesFor t old wanted)
 
@@ -63,7 +65,8 @@ pub record AnswersPage {KNOTS SLOTS : ℕ} (t : Table KNOTS SLOTS) (wanted : ℕ
   pub answers : IsTrue old.media.tells → IfOk result (IsPageFor t (flashes.page_at old) wanted)
   -- the buffer holds it
   pub holds : IfOk result (λ page. IfSome page (λ number. HoldsKept t new number buf_new))
-  -- a failure has its cause, and a bad page that is named for a covered key is one of those that have to be read
+  -- a failure has its cause, and a bad page that is named for a covered key is the first one that is met: the newest bad one of the
+  -- window, and none behind it there begins with at most the key
   pub fails : IfErr result (λ e. LookupFails t old e new)
   pub blames : is_covered_in t wanted ≡ true → IfErr result (BlamesFor t old wanted)
 

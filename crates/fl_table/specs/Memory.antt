@@ -110,8 +110,8 @@ pub record IsForgotten {KNOTS SLOTS : ℕ} (t : Table KNOTS SLOTS) : Type 0 wher
   pub ends : t.blob_end ≡ 0
   pub index : IndexOf (error_in t.index) [] t.index
 
--- Nothing waits in memory: no row is pending, with a bitmap and an end of its blobs, so that the page buffer is blank, and no byte
--- of a blob.
+-- Nothing waits in memory: no row is pending, with a bitmap and an end of its blobs, so that the page buffer is blank behind its
+-- header, and no byte of a blob. What the header holds isn't told: a seal writes it.
 pub record NothingWaits {KNOTS SLOTS : ℕ} (t : Table KNOTS SLOTS) : Type 0 where
   pub none : pending_in t ≡ 0
   pub rows : PendingAre t []

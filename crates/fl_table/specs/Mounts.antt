@@ -49,9 +49,9 @@ pub record MountsFlash {KNOTS SLOTS : ℕ} (t : Table KNOTS SLOTS) (old : FlashS
   pub goes : Goes old new
   -- after an Ok the power is on, if it was before
   pub power : OnOk result (old.is_on ≡ true → new.is_on ≡ true)
-  -- each page outside the rings stands
+  -- each page outside the rings stands, where the flash tells its bytes
   pub outside : IsTrue old.media.tells → OutsideStands t (page_at old) (page_at new)
-  -- at most four reads for each page of the rings
+  -- at most four reads for each page of the rings, where it does
   pub reads : IsTrue old.media.tells → FewReads (4 * pages_in t) old new
   -- one program and one erase in each ring at most
   pub repairs : FewRepairs (rings_in t) old new
