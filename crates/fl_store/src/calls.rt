@@ -18,7 +18,7 @@ ghost use Rattle.fl_table.specs.BlobAt.{data_in};
 ghost use Rattle.fl_parts.specs.Blobs.{most_pages};
 ghost use Rattle.fl_parts.specs.Faults.{MountCausedBy};
 ghost use Rattle.fl_table.specs.Causes.{FlushCausedBy, PutCausedBy, flush_breaks, put_breaks};
-ghost use Rattle.fl_table.specs.Finding.{HasKeyAt, IsAnswered, LookupFails, row_in, row_of_place};
+ghost use Rattle.fl_table.specs.Finding.{BlamesFor, HasKeyAt, IsAnswered, LookupFails, is_covered_in, row_in, row_of_place};
 ghost use Rattle.fl_table.specs.Look.{counts_in, counts_of, last_key_in};
 ghost use Rattle.fl_table.specs.Memory.{pending_in, HasRoom, MaySeal};
 ghost use Rattle.fl_parts.specs.IndexMount.{FewRepairs};
@@ -207,12 +207,14 @@ impl<'m, M: Media> Store<'m, M> {
         requires room { HavePage pages.old (⟦<SimFlash<'m, M> as Flash>⟧.state self.old.flash).geometry.page }
         ensures finds { (config : Config) (tables : List model.Table) (plan : Plan) (table : model.Table) → Holds config self.old.tables.entries.items (⟦<SimFlash<'m, M> as Flash>⟧.state self.old.flash) true tables → Located config tables at plan table →
             GetEnds plan table key pages.new.rows result }
-        // Whatever the pages hold: the row that is found has the key, and a page that has to be read isn't bad.
+        // Whatever the pages hold: the row that is found has the key; and of a covered key no page that has to be read is bad, or the
+        // first bad one is told, as the lookup in the table says.
         ensures key { IfOk result (λ found. (entry : Entry) → slice_get self.old.tables.entries.items at ≡ Some entry → IfSome found (HasKeyAt (table_in entry.table) pages.new.rows key)) }
         ensures answers { IfOk result (λ found. (entry : Entry) → slice_get self.old.tables.entries.items at ≡ Some entry → IsAnswered (table_in entry.table) (⟦<SimFlash<'m, M> as Flash>⟧.state self.old.flash) key found) }
         ensures here { IfOk result (λ found. IfSome found (IsRowIn self.new.tables.entries.items at pages.new.rows)) }
         ensures holds { (config : Config) (tables : List model.Table) → Holds config self.old.tables.entries.items (⟦<SimFlash<'m, M> as Flash>⟧.state self.old.flash) true tables → Holds config self.new.tables.entries.items (⟦<SimFlash<'m, M> as Flash>⟧.state self.new.flash) true tables }
         ensures fails { IfErr result (λ e. (entry : Entry) → slice_get self.old.tables.entries.items at ≡ Some entry → LookupFails (table_in entry.table) (⟦<SimFlash<'m, M> as Flash>⟧.state self.old.flash) e (⟦<SimFlash<'m, M> as Flash>⟧.state self.new.flash)) }
+        ensures blames { (entry : Entry) → slice_get self.old.tables.entries.items at ≡ Some entry → is_covered_in (table_in entry.table) key ≡ true → IfErr result (BlamesFor (table_in entry.table) (⟦<SimFlash<'m, M> as Flash>⟧.state self.old.flash) key) }
         ensures reads { OnlyReads (⟦<SimFlash<'m, M> as Flash>⟧.state self.old.flash) (⟦<SimFlash<'m, M> as Flash>⟧.state self.new.flash) }
         ensures same { self.new.tables ≡ self.old.tables }
         ensures lie { LieOn self.new.tables.entries.items (⟦<SimFlash<'m, M> as Flash>⟧.state self.new.flash) }

@@ -1,13 +1,13 @@
-use Rattle.std.proofs.Common.{rules, ◌≡◌, Option, Some, sym, ◌∙◌, slice_get, IfSome}
+use Rattle.std.proofs.Common.{rules, ◌≡◌, true, Option, Some, IfErr, sym, ◌∙◌, slice_get, IfSome}
 use Rattle.fl_model.specs.Bare.{bare, bare_table}
 use Rattle.fl_frame.proofs.ContentsInTurn.{OnlyReads-goes}
-use Rattle.fl_table.specs.Finding.{HasKeyAt, IsAnswered}
+use Rattle.fl_table.specs.Finding.{BlamesFor, HasKeyAt, IsAnswered, is_covered_in}
 use Rattle.fl_table.specs.declared.find.RowAt.{RowAt}
 use Rattle.fl_table.specs.declared.table.Table.{Table}
 use Rattle.fl_store.specs.Tables.{first_of}
 use Rattle.fl_store.proofs.Called.{entry-at}
 use Rattle.fl_store.proofs.TablesLie.{lie-on}
-use Rattle.fl_store.proofs.Queried.{fails-at, found-at, get-ends, lies-unlogged, rows-in, runs-unlogged, stands-at}
+use Rattle.fl_store.proofs.Queried.{at-place, fails-at, found-at, get-ends, lies-unlogged, rows-in, runs-unlogged, stands-at}
 use Rattle.fl_store.proofs.HeldStores.{held-read}
 use Rattle.fl_store.proofs.TablesOnlyRead.{page-read}
 use Rattle.fl_store.proofs.store.Store.get.Goals as goal
@@ -34,6 +34,10 @@ returns-clause-holds g c = λ config tables h.
 pub returns-clause-fails : goal.returns-clause-fails
 returns-clause-fails g c =
     fails-at c.table-table.result.now c.index.result.now c.table-table.ensures c.args.self.now.tables.entries.items c.args.at (entry-at c.args.self.now.tables.entries.items c.args.at c.index.result.now c.requires.at c.index.ensures) _ _ c.find.result c.find.ensures.row.fails
+
+pub returns-clause-blames : goal.returns-clause-blames
+returns-clause-blames g c =
+    at-place c.table-table.result.now c.index.result.now c.table-table.ensures c.args.self.now.tables.entries.items c.args.at (entry-at c.args.self.now.tables.entries.items c.args.at c.index.result.now c.requires.at c.index.ensures) (λ (x : Table 64 64). is_covered_in x c.args.key ≡ true → IfErr c.find.result (BlamesFor x _ c.args.key)) c.find.ensures.row.blames
 
 pub returns-clause-lie : goal.returns-clause-lie
 returns-clause-lie g c = lie-on c.args.self.now.tables.entries.items _ _ (OnlyReads-goes _ _ c.find.ensures.flash.counts) c.requires.lie
