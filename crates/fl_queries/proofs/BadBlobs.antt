@@ -15,7 +15,7 @@ use Rattle.fl_page.specs.declared.fault.ReadFault.{ReadFault}
 use Rattle.fl_page.specs.declared.fault.ReadFault.TheVariants as fault
 use Rattle.fl_ring.specs.Ring.{place}
 use Rattle.fl_table.specs.BlobAt.{data_in}
-use Rattle.fl_table.specs.Finding.{LookupFails}
+use Rattle.fl_table.specs.Finding.{BlamesFor, LookupFails, is_covered_in}
 use Rattle.fl_table.specs.declared.table.Table.{Table}
 use Rattle.fl_var.specs.Blobs.{AreThere, Begins, IsBadFirst, IsBadLater, IsBadOf, IsGone, IsReadable, IsThere, bytes_of, contents_from}
 use Rattle.fl_var.specs.Content.{HasContent, content_body}
@@ -156,9 +156,9 @@ module _ (t : Table 64 64) (f g : FlashState) (only : looking.OnlyReads f 1 g) (
         subst (λ (var : Option VarData). IsSomeAnd var (λ x. IsBadOf x f at bad)) is (o.ahead some bad here)
 
 -- a lookup that fails so
-pub looked-bad : (t : Table 64 64) (key : ℕ) (f g : FlashState) (e : ReadFault) → LookupFails t f e g → IfBad (MayBeBadFor t key f) e
-looked-bad t key f g (fault.Flash x) h = tt
-looked-bad t key f g (fault.BadPage bad) h = inl h.0
+pub looked-bad : (t : Table 64 64) (key : ℕ) (f g : FlashState) (e : ReadFault) → LookupFails t f e g → (is_covered_in t key ≡ true → BlamesFor t f key e) → IfBad (MayBeBadFor t key f) e
+looked-bad t key f g (fault.Flash x) h blames = tt
+looked-bad t key f g (fault.BadPage bad) h blames = inl (h.0, blames)
 
 -- .. and an opening
 pub opened-bad : (t : Table 64 64) (f g : FlashState) (v : VarData) (at : BlobRef) (stands : Result Bool ReadFault) (r : BlobReader) → Some v ≡ data_in t → (IsTrue f.media.tells → Opens v f at (turned stands r)) → IfErr stands (λ e. IsCaused f e g) → IfErr stands (λ e. IsCaused f e g × IfBad (IsBadIn t f at) e)

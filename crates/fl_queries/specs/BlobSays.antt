@@ -8,8 +8,9 @@ use Rattle.fl_page.specs.Causes.{IsCaused}
 use Rattle.fl_frame.specs.Contents.{OnlyReads}
 use Rattle.fl_page.specs.declared.fault.BadPage.{BadPage}
 use Rattle.fl_page.specs.declared.fault.ReadFault.{ReadFault}
+use Rattle.fl_page.specs.declared.fault.ReadFault.TheVariants as fault
 use Rattle.fl_table.specs.BlobAt.{data_in}
-use Rattle.fl_table.specs.Finding.{HasBadPage, IsAnswered}
+use Rattle.fl_table.specs.Finding.{BlamesFor, HasBadPage, IsAnswered, is_covered_in}
 use Rattle.fl_table.specs.declared.table.Table.{Table}
 use Rattle.fl_var.specs.Blobs.{IsBadOf, IsGone, IsThere, bytes_of}
 use Rattle.fl_var.specs.Reading.{bytes_left, IfBad, IsBadAhead, IsThereBehind, Reads}
@@ -37,9 +38,10 @@ FindsNamed t key f Holds = FindsRow t key f (λ row. (at : BlobRef) × (row.blob
 abbrev pub IsBadNamed : Table 64 64 → ℕ → FlashState → BadPage → Type 0
 IsBadNamed t key f bad = FindsNamed t key f (λ at. IsBadIn t f at bad)
 
--- .. or a page that the lookup of its record read, as far as the flash tells
+-- .. or one that the lookup of its record reports: a page that the table keeps and, of a covered key, the one that this blames, as
+-- far as the flash tells
 abbrev pub MayBeBadFor : Table 64 64 → ℕ → FlashState → BadPage → Type 0
-MayBeBadFor t key f bad = (IsTrue f.media.tells → HasBadPage t f bad) ⊎ IsBadNamed t key f bad
+MayBeBadFor t key f bad = ((IsTrue f.media.tells → HasBadPage t f bad) × (is_covered_in t key ≡ true → BlamesFor t f key (fault.BadPage bad))) ⊎ IsBadNamed t key f bad
 
 -- a page is bad on which the bytes go on that a reader has left
 abbrev pub MayBeBadAhead : BlobReader → FlashState → BadPage → Type 0

@@ -11,7 +11,7 @@ ghost use Rattle.fl_model.specs.Table.{Entry};
 ghost use Rattle.fl_frame.specs.Contents.{OnlyReads};
 ghost use Rattle.fl_schema.specs.Schema.{row_of};
 ghost use Rattle.fl_table.specs.BlobAt.{has_blobs, content_in};
-ghost use Rattle.fl_table.specs.Finding.{LookupFails};
+ghost use Rattle.fl_table.specs.Finding.{BlamesFor, LookupFails, is_covered_in};
 ghost use Rattle.fl_table.specs.Memory.{is_running, LiesOn};
 ghost use Rattle.fl_table.specs.Standing.{Stands};
 ghost use Rattle.fl_table.specs.declared.table.Table as tables;
@@ -69,6 +69,7 @@ fn find_blob<F: Flash>(
     ensures reads { (first : ℕ) (plan : Plan) (t : model.Table) → IsTrue (F.state flash.old).media.tells → Stands table.now (F.state flash.old) first plan t → (F.state flash.new).work.reads ≤ (F.state flash.old).work.reads + lookup_limit 64 plan t key }
     ensures names { IfOk result (NamesFor table.now key (F.state flash.old)) }
     ensures fails { IfErr result (λ fault. LookupFails table.now (F.state flash.old) fault (F.state flash.new)) }
+    ensures blames { is_covered_in table.now key ≡ true → IfErr result (BlamesFor table.now (F.state flash.old) key) }
 {
     let mut steps = Steps::new();
     match table.find(flash, key, buf, &mut steps) {

@@ -93,3 +93,12 @@ returns-in-Err-clause-names g c = tt
 
 pub returns-in-Err-clause-fails : goal.returns-in-Err-clause-fails
 returns-in-Err-clause-fails g c = c.in-Err.ensures.row.fails
+
+pub returns-in-Ok-None-clause-blames : goal.returns-in-Ok-None-clause-blames
+returns-in-Ok-None-clause-blames g c = λ covered. tt
+
+pub returns-in-Ok-Some-clause-blames : goal.returns-in-Ok-Some-clause-blames
+returns-in-Ok-Some-clause-blames g c = λ covered. tt
+
+pub returns-in-Err-clause-blames : goal.returns-in-Err-clause-blames
+returns-in-Err-clause-blames g c = c.in-Err.ensures.row.blames

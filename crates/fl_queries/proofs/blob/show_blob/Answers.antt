@@ -76,6 +76,7 @@ returns-in-Err-clause-tells g c =
     let t = c.args.table.now in
     let key = c.args.key in
     let fails = rw c.in-Err.is at c.find_blob.ensures.fails in
+    let blames = rw c.in-Err.is at c.find_blob.ensures.blames in
     let cause = lookup-caused t f h c.in-Err.fault fails in
-    says-none_read (AnswersBlob t key f) (MayBeBadFor t key f) (IsBadNamed t key f) f h _ _ _ c.in-Err.fault cause (looked-bad t key f h c.in-Err.fault fails)
+    says-none_read (AnswersBlob t key f) (MayBeBadFor t key f) (IsBadNamed t key f) f h _ _ _ c.in-Err.fault cause (looked-bad t key f h c.in-Err.fault fails blames)
     (subst (λ (l : List ℕ). Written (g.K.Sink.written c.args.out.now) (g.K.Sink.written c.write_reply-in-Err.new.out) c.write_reply-in-Err.result l) c.read_reply.ensures c.write_reply-in-Err.ensures.text)
