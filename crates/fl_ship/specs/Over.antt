@@ -1,5 +1,6 @@
 -- What a ship does over any bytes and on any media.
-use Rattle.std.specs.Prelude.{◌≡◌, ◌⊎◌, ℕ, ◌≤◌, IsTrue, None, Some, Result, Ok, Err, List, [], slice_get}
+use Rattle.std.specs.Prelude.{◌≡◌, ◌⊎◌, ℕ, ◌≤◌, IsTrue, Option, None, Some, Result, Ok, Err, List, [], slice_get}
+use Rattle.fl_base.specs.Causes.{Appends, AppendsFront}
 use Rattle.fl_config.specs.Whole.{Makes}
 use Rattle.fl_flash.specs.Flash.{FlashState, Goes}
 use Rattle.fl_flash.specs.Media.{MediaState}
@@ -18,6 +19,7 @@ use Rattle.fl_words.specs.Config.{Lines}
 use Rattle.fl_store.specs.NewImage.{made_image}
 use Rattle.fl_ship.specs.Ready.{IsEarly}
 use Rattle.fl_ship.specs.Tables.{mount_status}
+use Rattle.fl_ship.specs.Text.{shipped_text}
 use Rattle.fl_ship.specs.declared.side.Side.TheVariants.{Source, Copy}
 use Rattle.fl_ship.specs.declared.status.ShipStatus.{ShipStatus}
 use Rattle.fl_ship.specs.declared.status.ShipStatus.TheVariants.{Done, OutWrite, NoMemory, NotImage, Device, BadImage, NoTable, Gap, OtherForm, Spent}
@@ -104,3 +106,11 @@ pub record IsMadeInPart (source source_now copy copy_now : MediaState) (status :
 abbrev pub ShipJob : List ℕ → ℕ → MediaState → MediaState → MediaState → MediaState → ShipStatus → Type 0
 ShipJob name count source source_now copy copy_now status =
     (IsEarly status × OnlyLooksAt source source_now × OnlyLooksAt copy copy_now) ⊎ IsMadeInPart source source_now copy copy_now status ⊎ ShipOver name count source source_now copy copy_now status
+
+-- ---- to the output
+
+-- What a ship that ended so has written: how many records it tells as shipped, or a front of that line where the output failed; else nothing.
+abbrev pub WritesLine : {K : Type 0} → ℕ → K → K → Option (List ℕ) → Option (List ℕ) → ShipStatus → Type 0
+WritesLine count out out_now written written_now (Done shipped) = Appends written written_now (shipped_text shipped)
+WritesLine count out out_now written written_now OutWrite = (shipped : ℕ) × (shipped ≤ count) × AppendsFront written written_now (shipped_text shipped)
+WritesLine count out out_now written written_now status = out_now ≡ out

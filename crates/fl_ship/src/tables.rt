@@ -23,7 +23,7 @@ ghost use Rattle.fl_store.specs.Tables.{IsNamed, LieOn, TablesStand};
 ghost use Rattle.fl_frame.specs.Causes.{IsUnarmed};
 ghost use Rattle.fl_store.specs.declared.tables.Entry.{Entry};
 ghost use Rattle.fl_ship.specs.Ends.{TablesShip};
-ghost use Rattle.fl_ship.specs.Over.{ShipsBetween};
+ghost use Rattle.fl_ship.specs.Over.{ShipsBetween, WritesLine};
 ghost use Rattle.fl_ship.specs.Tables.{HaveOneForm, IsOfTables, ShipLeaves, StopCausedBy, TellsShipped, standing_on, told_of};
 ghost use Rattle.fl_ship.specs.declared.fault.ShipFault.{ShipFault};
 ghost use Rattle.fl_ship.specs.declared.side.Side.{Side};
@@ -149,6 +149,7 @@ pub(crate) fn ship_on<A: Flash, B: Flash, K: Sink>(
     ensures device { result ≡ ShipStatus.Device Side.Source → Rose (A.state from.old).media.faults (A.state from.new).media.faults }
     ensures copy_device { result ≡ ShipStatus.Device Side.Copy → Rose (B.state onto.old).media.faults (B.state onto.new).media.faults }
     ensures write { result ≡ ShipStatus.OutWrite → Rose (K.faults out.old) (K.faults out.new) }
+    ensures line { WritesLine count out.old out.new (K.written out.old) (K.written out.new) result }
     ensures bad { (side : Side) (table : ℕ) → result ≡ ShipStatus.BadImage side table → table < length sources.old.entries.items }
     ensures later { K.faults out.old ≤ K.faults out.new }
     ensures goes { Goes (A.state from.old) (A.state from.new) }
