@@ -18,6 +18,7 @@ use Rattle.fl_table.specs.Look.{last_key_in}
 use Rattle.fl_words.specs.Config.{Lines}
 use Rattle.fl_store.specs.NewImage.{made_image}
 use Rattle.fl_ship.specs.Ready.{IsEarly}
+use Rattle.fl_ship.specs.Rows.{HasFewNumbers}
 use Rattle.fl_ship.specs.Tables.{mount_status}
 use Rattle.fl_ship.specs.Text.{shipped_text}
 use Rattle.fl_ship.specs.declared.side.Side.TheVariants.{Source, Copy}
@@ -35,14 +36,21 @@ pub record IsGapOver (sources copies : List Entry) (at last : ℕ) : Type 0 wher
   pub there : slice_get copies at ≡ Some copy
   pub ends : last_key_in (table_in copy.table) ≡ Some last
 
+-- the copy's table at this place has a ring with fewer page numbers left than so many
+pub record IsSpentOver (copies : List Entry) (at count : ℕ) : Type 0 where
+  pub copy : Entry
+  pub there : slice_get copies at ≡ Some copy
+  pub few : HasFewNumbers copy.table count
+
 -- What is told between tables that were mounted: no more records than were asked for; a bad image only of the source's table, of which a
--- page is bad; a gap of the copy's last key, and then nothing of the copy was changed since the mount.
+-- page is bad; a gap of the copy's last key, and then nothing of the copy was changed since the mount; spent numbers only of a copy that
+-- had fewer left than records were asked for.
 abbrev pub Tells : ℕ → ℕ → List Entry → FlashState → List Entry → FlashState → FlashState → ShipStatus → Type 0
 Tells count at sources from copies onto onto_now (Done shipped) = shipped ≤ count
 Tells count at sources from copies onto onto_now (BadImage Source table) = (table ≡ at) × HasBadPage sources at from
 Tells count at sources from copies onto onto_now (BadImage Copy table) = ⊥
 Tells count at sources from copies onto onto_now (Gap last oldest) = IsGapOver sources copies at last × (onto_now ≡ onto)
-Tells count at sources from copies onto onto_now Spent = Unit {0}
+Tells count at sources from copies onto onto_now Spent = IsSpentOver copies at count
 Tells count at sources from copies onto onto_now OutWrite = Unit {0}
 Tells count at sources from copies onto onto_now NoMemory = Unit {0}
 Tells count at sources from copies onto onto_now (Device side) = Unit {0}

@@ -28,7 +28,7 @@ use Rattle.fl_ship.proofs.FlashEnds.{source-fails, copy-fails, shipped, stopped,
 use Rattle.fl_ship.proofs.Statuses.{mount-place, good-device, stop-good, stop-line, mount-rose, mount-side, mount-of-tables, mount-line, mount-quiet, sides-apart, stop-of-tables, stop-place, stop-quiet, stop-rose, told-is, told-line, told-of-tables}
 use Rattle.fl_store.specs.MountsOver.{MountsOver}
 use Rattle.fl_store.proofs.Jobs.{own-changes}
-use Rattle.fl_ship.proofs.OverBytes.{bad-there, copy-refused, gap-there, source-refused, tables-shipped, tells-shipped, tells-stopped}
+use Rattle.fl_ship.proofs.OverBytes.{bad-there, copy-refused, gap-there, source-refused, spent-there, tables-shipped, tells-shipped, tells-stopped}
 use Rattle.fl_ship.proofs.tables.ship_on.Goals as goal
 
 -- ---- the source's tables aren't mounted
@@ -398,11 +398,12 @@ returns-in-Err-ship_table-clause-over g c =
     let c_here = entry-at c.mount-2.new.self.entries.items c.args.at c.index_mut.result.now (subst (λ (n : ℕ). c.args.at < n) (sym (c.mount-2.ensures.as_many ∙ c.requires.as_many)) c.requires.at) c.index_mut.ensures.value in
     let within = subst (λ (n : ℕ). c.args.at < n) (sym c.requires.as_many) c.requires.at in
     let changes = own-changes c.args.copies.now.entries.items c.mount-2.new.self.entries.items c.args.at c.index_mut.result.now (g.B.Flash.state c.mount-2.new.flash) (g.B.Flash.state c.ship_table.new.onto) d.same within c_here c.ship_table.ensures.outside in
-    let tells = tells-stopped c.args.count c.args.at c.mount.new.self.entries.items (g.A.Flash.state c.mount.new.flash) c.mount-2.new.self.entries.items (g.B.Flash.state c.mount-2.new.flash) (g.B.Flash.state c.ship_table.new.onto) c.in-Err-ship_table.stop
+    let tells = tells-stopped c.args.count c.args.at c.mount.new.self.entries.items (g.A.Flash.state c.mount.new.flash) c.mount-2.new.self.entries.items (g.B.Flash.state c.mount-2.new.flash) (g.B.Flash.state c.ship_table.new.onto) (g.A.Flash.state c.ship_table.new.from) c.in-Err-ship_table.stop c.in-Err-ship_table.ensures.cause
     (λ bad is. bad-there c.mount.new.self.entries.items c.args.at c.index.result.now c.table-source.result.now (g.A.Flash.state c.mount.new.flash) bad here c.table-source.ensures (c.ship_table.ensures.bad_page bad (c.in-Err-ship_table.is ∙ ap (λ (s : Stop). Err s) is)))
     (λ last oldest is.
     let stops = c.in-Err-ship_table.is ∙ ap (λ (s : Stop). Err s) is in
-    (gap-there c.mount.new.self.entries.items c.mount-2.new.self.entries.items c.args.at last c.index.result.now c.index_mut.result.now c.table-source.result.now here c_here c.table-source.ensures (c.ship_table.ensures.gap last oldest stops), c.ship_table.ensures.gap_leaves last oldest stops)) in
+    (gap-there c.mount.new.self.entries.items c.mount-2.new.self.entries.items c.args.at last c.index.result.now c.index_mut.result.now c.table-source.result.now here c_here c.table-source.ensures (c.ship_table.ensures.gap last oldest stops), c.ship_table.ensures.gap_leaves last oldest stops))
+    (λ is. spent-there c.mount-2.new.self.entries.items c.args.at c.args.count c.index_mut.result.now c_here (c.ship_table.ensures.numbers (c.in-Err-ship_table.is ∙ ap (λ (s : Stop). Err s) is))) in
     rw c.stop_status.ensures
     (tables-shipped c.args.count c.args.at _ _ _ _ c.mount.result mounts c.args.copies.now.entries.items (g.B.Flash.state c.args.onto.now) tt c.in_default.is _ _ c.mount-2.result c_mounts _
     (g.A.Flash.state c.ship_table.new.from) (g.B.Flash.state c.ship_table.new.onto) tt c.in_default-mount.is d.goes c.ship_table.ensures.reads_only changes tells)
