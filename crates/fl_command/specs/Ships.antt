@@ -9,7 +9,7 @@ use Rattle.fl_model.specs.Table.{Table}
 use Rattle.fl_ship.specs.Ends.{IsCopy, ShipEnds}
 use Rattle.fl_ship.specs.Fits.{AreImagesFor, CopyKeeps, StatusFits, is_refused}
 use Rattle.fl_ship.specs.Media.{bytes_of}
-use Rattle.fl_ship.specs.Over.{ShipJob as ShipsOver}
+use Rattle.fl_ship.specs.Over.{ShipJob as ShipsOver, WritesLine}
 use Rattle.fl_ship.specs.Tables.{told_of}
 use Rattle.fl_ship.specs.declared.side.Side.TheVariants.{Source, Copy}
 use Rattle.fl_ship.specs.declared.status.ShipStatus.{ShipStatus}
@@ -35,8 +35,9 @@ sides_of source copy out written out_faults = record { source = source; copy = c
 
 -- A ship of the table with the name: over an image that stands for tables, and a copy that does or is empty, the next records are put
 -- into the copy, and how many they were is written. Both media stand for the tables that this leaves, but for an empty copy whose
--- making failed. Whatever bytes the media hold, and whether they tell them, the tables of both are mounted, up to one that is refused;
--- then the source is only read, and of the copy only pages of the named table change.
+-- making failed. Whatever bytes the media hold, and whether they tell them, the status says why neither is opened, or the tables of both are
+-- mounted, up to one that is refused; then the source is only read, and of the copy only pages in the rings of the named table change. Nothing
+-- is written but how many records the status tells as shipped.
 pub record Ships {K : Type 0} (name : List ℕ) (count : ℕ) (old new : Sides K) (status : ShipStatus) : Type 0 where
   pub ends : (config : Config) (sources copies : List Table) → IsTrue old.source.tells → IsTrue old.copy.tells → IsMade config → IsImage config old.source.content sources
       → IsCopy config old.copy.content copies
@@ -58,6 +59,7 @@ pub record Ships {K : Type 0} (name : List ℕ) (count : ℕ) (old new : Sides K
   pub device : status ≡ Device Source → Rose old.source.faults new.source.faults
   pub copy_device : status ≡ Device Copy → Rose old.copy.faults new.copy.faults
   pub write : status ≡ OutWrite → Rose old.out_faults new.out_faults
+  pub line : WritesLine count old.out new.out old.written new.written status
   pub later : old.out_faults ≤ new.out_faults
   pub keeps : Keeps old.source new.source
   pub copy_keeps : CopyKeeps old.source.content old.copy new.copy

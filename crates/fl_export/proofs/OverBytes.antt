@@ -23,14 +23,15 @@ use Rattle.fl_export.proofs.Statuses.{fault-bad, fault-place}
 
 module _ (entries now : List Entry) (f m : FlashState) (outcome : Result (Unit {0}) BadMount) (mounts : MountsOver entries now f outcome m) where
   -- a table is refused
-  pub refuses-over : (status : ToolStatus) (at : ℕ) (bad : BadMount) → outcome ≡ Err bad → status ≡ mount_status bad.fault bad.at → ExportsOver status at entries f m
-  refuses-over status at bad is said =
-      mounts-alone entries now f m outcome mounts (ReadsTable status at m) (subst (λ (r : Result (Unit {0}) BadMount). ReadsTable status at m r now m) (sym is) (said, refl))
+  pub refuses-over : {K : Type 0} (status : ToolStatus) (out : K) (at : ℕ) (bad : BadMount) → outcome ≡ Err bad → status ≡ mount_status bad.fault bad.at → ExportsOver status out out at entries f m
+  refuses-over status out at bad is said =
+      mounts-alone entries now f m outcome mounts (ReadsTable status out out at m) (subst (λ (r : Result (Unit {0}) BadMount). ReadsTable status out out at m r now m) (sym is) (said, refl, refl))
 
   -- all were mounted, and pages of one were read
-  pub reads-over : (status : ToolStatus) (at : ℕ) (g : FlashState) (done : Unit {0}) → outcome ≡ Ok done → OnlyReads m g → ((table : ℕ) → status ≡ BadImage table → (table ≡ at) × (HasBadPage now at m ⊎ (has_blobs_at now at ≡ true))) → ExportsOver status at entries f g
-  reads-over status at g done is only bad =
-      mounts-read entries now f m outcome mounts g only (ReadsTable status at g) (subst (λ (r : Result (Unit {0}) BadMount). ReadsTable status at g r now m) (sym is) (only, bad))
+  pub reads-over : {K : Type 0} (status : ToolStatus) (out out_now : K) (at : ℕ) (g : FlashState) (done : Unit {0}) → outcome ≡ Ok done → OnlyReads m g →
+      ((table : ℕ) → status ≡ BadImage table → (table ≡ at) × (HasBadPage now at m ⊎ (has_blobs_at now at ≡ true))) → ExportsOver status out out_now at entries f g
+  reads-over status out out_now at g done is only bad =
+      mounts-read entries now f m outcome mounts g only (ReadsTable status out out_now at g) (subst (λ (r : Result (Unit {0}) BadMount). ReadsTable status out out_now at g r now m) (sym is) (only, bad))
 
 -- why a bad image is told of the table that is written
 pub bad-table : (now : List Entry) (at : ℕ) (entry : Entry) (t : Table 64 64) (m : FlashState) (e : ExportFault) (status : ToolStatus) (table : ℕ) → slice_get now at ≡ Some entry → t ≡ table_in entry.table → status ≡ status_of e at → status ≡ BadImage table →

@@ -59,7 +59,7 @@ fn export_on<F: Flash, K: Sink>(
     requires at { at < length tables.old.entries.items }
     requires few { length tables.old.entries.items ≤ 4 }
     requires unarmed { IsUnarmed (F.state flash.old) }
-    ensures over { ExportsOver result at tables.old.entries.items (F.state flash.old) (F.state flash.new) }
+    ensures over { ExportsOver result out.old out.new at tables.old.entries.items (F.state flash.old) (F.state flash.new) }
     ensures goes { Goes (F.state flash.old) (F.state flash.new) }
     ensures later { K.faults out.old ≤ K.faults out.new }
     ensures write { result ≡ ToolStatus.OutWrite → Rose (K.faults out.old) (K.faults out.new) }
@@ -103,9 +103,10 @@ pub fn export_image<M: Media, K: Sink>(
     ensures repairs { (config : Configured) (tables : List model.Table) → IsTrue (M.state media.old).tells → IsMade config → IsImage config (M.state media.old).content tables → (result ≡ ToolStatus.Device → ⊥) →
         AreRepaired config (M.state media.old).content (M.state media.new).content }
 
-    // Whatever bytes the medium holds, and whether it tells them: the tables are mounted, up to one that is refused, and else pages of the
-    // named one are read. Outside of the rings of the tables that the mount came to, nothing changes.
-    ensures over { JobEnds name (M.state media.old) (M.state media.new) result (ExportsOver result) }
+    // Whatever bytes the medium holds, and whether it tells them: a store is opened, or the status says why not. Its tables are mounted, up to
+    // one that is refused, and then nothing is written to the output. Else pages are read and none is changed. Outside of the rings of
+    // the tables that the mount came to, nothing changes.
+    ensures over { JobEnds name (M.state media.old) (M.state media.new) result (ExportsOver result out.old out.new) }
 
     // Statuses have their causes, over any bytes, and a medium that doesn't tell them.
     ensures fits { IsTrue (M.state media.old).tells → StatusFits (M.state media.old).content name result }

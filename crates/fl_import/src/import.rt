@@ -67,7 +67,7 @@ fn import_on<F: Flash, S: Source, K: Sink>(
     requires few { length tables.old.entries.items ≤ 4 }
     requires unarmed { IsUnarmed (F.state flash.old) }
     requires new { lines.old ≡ record { line = []; ahead = []; most = 2 ^ 24; closed = false } }
-    ensures over { ImportsOver result.status at tables.old.entries.items (F.state flash.old) (F.state flash.new) }
+    ensures over { ImportsOver result input.old input.new out.old out.new at tables.old.entries.items (F.state flash.old) (F.state flash.new) }
     ensures goes { Goes (F.state flash.old) (F.state flash.new) }
     ensures causes { HasCauses (length tables.old.entries.items) (F.state flash.old).media.faults (F.state flash.new).media.faults (S.faults input.old) (S.faults input.new) (K.faults out.old) (K.faults out.new) result.kept result.status }
     ensures unread { (table : ℕ) → result.status ≡ ToolStatus.BadImage table → (input.new ≡ input.old) × (out.new ≡ out.old) }
@@ -137,9 +137,10 @@ pub fn import_image<M: Media, S: Source, K: Sink>(
     ensures repairs { (config : Configured) (tables : List model.Table) → IsTrue (M.state media.old).tells → IsMade config → IsImage config (M.state media.old).content tables → (result.status ≡ ToolStatus.Device → ⊥) →
         OthersAreRepaired config name (M.state media.old).content (M.state media.new).content }
 
-    // Whatever bytes the medium holds, and whether it tells them: the tables are mounted, up to one that is refused, and else records are put
-    // into the named one. Outside of the rings of the tables that the mount came to, nothing changes.
-    ensures over { JobEnds name (M.state media.old) (M.state media.new) result.status (ImportsOver result.status) }
+    // Whatever bytes the medium holds, and whether it tells them: a store is opened, or the status says why not. Its tables are mounted, up to
+    // one that is refused, and then no line is taken and nothing is written to the output. Else only pages in the rings of the named
+    // one change. Outside of the rings of the tables that the mount came to, nothing changes.
+    ensures over { JobEnds name (M.state media.old) (M.state media.new) result.status (ImportsOver result input.old input.new out.old out.new) }
 
     // Rows are told exactly where it is done.
     ensures kept { is_some result.kept ≡ is_done result.status }

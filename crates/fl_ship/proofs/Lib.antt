@@ -6,6 +6,7 @@ mod ToShip
 mod Gaps
 mod Firsts
 mod RowsFit
+mod Numbers
 mod Statuses
 mod Forms
 mod FlashEnds

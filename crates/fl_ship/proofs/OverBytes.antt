@@ -17,8 +17,9 @@ use Rattle.fl_table.specs.Look.{last_key_in}
 use Rattle.fl_table.specs.declared.faults.FlushFault.TheVariants as flush
 use Rattle.fl_table.specs.declared.faults.PutRefusal.TheVariants as put
 use Rattle.fl_table.specs.declared.table.Table.{Table}
-use Rattle.fl_ship.specs.Over.{IsGapOver, ShipsFrom, ShipsOnto, ShipsBetween, Tells}
-use Rattle.fl_ship.specs.Tables.{TellsShipped, mount_status, stop_status}
+use Rattle.fl_ship.specs.Over.{IsGapOver, IsSpentOver, ShipsFrom, ShipsOnto, ShipsBetween, Tells}
+use Rattle.fl_ship.specs.Rows.{HasFewNumbers}
+use Rattle.fl_ship.specs.Tables.{StopCausedBy, TellsShipped, mount_status, stop_status}
 use Rattle.fl_ship.specs.declared.fault.ShipFault.TheVariants.{Read, Put, Flush}
 use Rattle.fl_ship.specs.declared.side.Side.TheVariants.{Source, Copy}
 use Rattle.fl_ship.specs.declared.status.ShipStatus.{ShipStatus}
@@ -41,20 +42,20 @@ module _ (count at : ℕ) (sources : List Entry) (from : FlashState) (copies : L
   tells-shipped shipped told told_now faults faults_now OtherForm few h = absurd h
   tells-shipped shipped told told_now faults faults_now Spent few h = absurd h
 
-  pub tells-stopped : (why : Stop) → ((bad : BadPage) → why ≡ stop.Ship (Read (read.BadPage bad)) → HasBadPage sources at from) → ((last oldest : ℕ) → why ≡ stop.Gap last oldest → IsGapOver sources copies at last × (onto_now ≡ onto)) →
-      Tells count at sources from copies onto onto_now (stop_status why at)
-  tells-stopped (stop.Gap last oldest) page gap = gap last oldest refl
-  tells-stopped (stop.Ship (Read (read.Flash e))) page gap = tt
-  tells-stopped (stop.Ship (Read (read.BadPage bad))) page gap = (refl, page bad refl)
-  tells-stopped (stop.Ship (Put (put.Flash e))) page gap = tt
-  tells-stopped (stop.Ship (Put (put.Key last))) page gap = tt
-  tells-stopped (stop.Ship (Put (put.Columns wanted))) page gap = tt
-  tells-stopped (stop.Ship (Put (put.Value column))) page gap = tt
-  tells-stopped (stop.Ship (Put (put.Blob limit))) page gap = tt
-  tells-stopped (stop.Ship (Put put.Spent)) page gap = tt
-  tells-stopped (stop.Ship (Put put.Stopped)) page gap = tt
-  tells-stopped (stop.Ship (Flush (flush.Flash e))) page gap = tt
-  tells-stopped (stop.Ship (Flush flush.Stopped)) page gap = tt
+  pub tells-stopped : (from_now : FlashState) (why : Stop) → StopCausedBy from from_now onto onto_now why → ((bad : BadPage) → why ≡ stop.Ship (Read (read.BadPage bad)) → HasBadPage sources at from) →
+      ((last oldest : ℕ) → why ≡ stop.Gap last oldest → IsGapOver sources copies at last × (onto_now ≡ onto)) → (why ≡ stop.Ship (Put put.Spent) → IsSpentOver copies at count) → Tells count at sources from copies onto onto_now (stop_status why at)
+  tells-stopped from_now (stop.Gap last oldest) cause page gap spent = gap last oldest refl
+  tells-stopped from_now (stop.Ship (Read (read.Flash e))) cause page gap spent = tt
+  tells-stopped from_now (stop.Ship (Read (read.BadPage bad))) cause page gap spent = (refl, page bad refl)
+  tells-stopped from_now (stop.Ship (Put (put.Flash e))) cause page gap spent = tt
+  tells-stopped from_now (stop.Ship (Put (put.Key last))) cause page gap spent = absurd cause
+  tells-stopped from_now (stop.Ship (Put (put.Columns wanted))) cause page gap spent = absurd cause
+  tells-stopped from_now (stop.Ship (Put (put.Value column))) cause page gap spent = absurd cause
+  tells-stopped from_now (stop.Ship (Put (put.Blob limit))) cause page gap spent = absurd cause
+  tells-stopped from_now (stop.Ship (Put put.Spent)) cause page gap spent = spent refl
+  tells-stopped from_now (stop.Ship (Put put.Stopped)) cause page gap spent = absurd cause
+  tells-stopped from_now (stop.Ship (Flush (flush.Flash e))) cause page gap spent = tt
+  tells-stopped from_now (stop.Ship (Flush flush.Stopped)) cause page gap spent = tt
 
 -- a page of the source's table is bad
 pub bad-there : (sources : List Entry) (at : ℕ) (entry : Entry) (t : Table 64 64) (f : FlashState) (bad : BadPage) → slice_get sources at ≡ Some entry → t ≡ table_in entry.table → MayBeBad t (contents_of f) bad → HasBadPage sources at f
@@ -70,6 +71,10 @@ gap-there sources copies at last source copy t here there own h = record {
   there = there;
   ends = h.0;
 }
+
+-- a ring of the copy's table has too few page numbers left
+pub spent-there : (copies : List Entry) (at count : ℕ) (copy : Entry) → slice_get copies at ≡ Some copy → HasFewNumbers copy.table count → IsSpentOver copies at count
+spent-there copies at count copy there few = record { copy = copy; there = there; few = few }
 
 -- ---- what is done
 

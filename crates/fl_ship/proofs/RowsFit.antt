@@ -71,9 +71,12 @@ module _ (t : Table 64 64) (row : Row) (fits : FitsRow (layout_of t.schema) row)
       ap (λ (b : Bool). if b then Some (Value 0) else option_map (λ column. Value column) (first_misfit 1 (layout_of t.schema).columns row.values)) (not-lt (greatest_key (layout_of t.schema)) row.key fits.key)
       ∙ ap (λ (o : Option ℕ). option_map (λ column. Value column) o) fits.values
 
+  -- page numbers alone decide
+  pub refused-alone : is_running t ≡ true → ((before : ℕ) → t.last_key ≡ Some before → before < row.key) → refusal.put_refusal t row.key row.values None ≡ spent_refused t
+  refused-alone running above = rw (running, no-key t.last_key row.key above, no-columns, no-value) refl
+
   pub spent-alone : is_running t ≡ true → ((before : ℕ) → t.last_key ≡ Some before → before < row.key) → IsSpent (refusal.put_refusal t row.key row.values None)
-  spent-alone running above =
-      rw (running, no-key t.last_key row.key above, no-columns, no-value) (spent-if _)
+  spent-alone running above = subst IsSpent (sym (refused-alone running above)) (spent-if _)
 
 -- a row that fits, with a key above the last one
 pub put-spent : (t : LoggedTable 64 64) (row : Row) → FitsRow (layout_of t.table.schema) row → is_running t.table ≡ true → ((before : ℕ) → t.table.last_key ≡ Some before → before < row.key) → IsSpent (put_refusal t row.key row.values None)

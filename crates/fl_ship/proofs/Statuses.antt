@@ -1,7 +1,7 @@
 -- The statuses of a ship of tables.
-use Rattle.std.proofs.Common.{◌≡◌, ℕ, true, Option, List, refl, sym, ◌∙◌, subst}
+use Rattle.std.proofs.Common.{◌≡◌, ℕ, ◌≤◌, true, Option, List, refl, sym, ◌∙◌, subst}
 use Rattle.fl_store.specs.Status as store
-use Rattle.fl_base.specs.Causes.{Rose}
+use Rattle.fl_base.specs.Causes.{Appends, Rose}
 use Rattle.fl_flash.specs.Flash.{FlashState}
 use Rattle.fl_flash.specs.declared.flash.FlashFault.TheVariants.{PowerLost, Media}
 use Rattle.fl_image.specs.declared.status.ToolStatus.TheVariants as job
@@ -15,7 +15,10 @@ use Rattle.fl_ship.specs.Fits.{is_refused}
 use Rattle.fl_frame.proofs.WatchedInTurn.{never-lost}
 use Rattle.fl_frame.specs.Causes.{IsUnarmed}
 use Rattle.fl_parts.specs.Faults.{MountCausedBy}
+use Rattle.fl_ship.specs.Over.{WritesLine}
+use Rattle.fl_ship.specs.Ready.{IsEarly}
 use Rattle.fl_ship.specs.Tables.{IsOfTables, RoseOn, StopCausedBy, TellsShipped, mount_status, stop_status}
+use Rattle.fl_ship.specs.Text.{shipped_text}
 use Rattle.fl_ship.specs.declared.fault.ShipFault.TheVariants.{Read, Put, Flush}
 use Rattle.fl_ship.specs.declared.side.Side.{Side}
 use Rattle.fl_ship.specs.declared.side.Side.TheVariants.{Source, Copy}
@@ -94,6 +97,10 @@ mount-of-tables side e at = mount-cases IsOfTables side at tt tt e
 pub mount-quiet : (side : Side) (e : MountFault) (at : ℕ) → mount_status side e at ≡ OutWrite → ⊥
 mount-quiet side e at = mount-cases (λ (status : ShipStatus). status ≡ OutWrite → ⊥) side at (λ is. cc is) (λ is. cc is) e
 
+-- nothing was written then
+pub mount-line : {K : Type 0} (count : ℕ) (out : K) (told : Option (List ℕ)) (side : Side) (e : MountFault) (at : ℕ) → WritesLine count out out told told (mount_status side e at)
+mount-line count out told side e at = mount-cases (λ (status : ShipStatus). WritesLine count out out told told status) side at refl refl e
+
 -- ---- it was told how many records were shipped
 
 pub told-is : (shipped : ℕ) (told told_now : Option (List ℕ)) (faults faults_now : ℕ) (status other : ShipStatus) → TellsShipped shipped told told_now faults faults_now status → status ≡ other → TellsShipped shipped told told_now faults faults_now other
@@ -110,6 +117,33 @@ told-of-tables shipped told told_now faults faults_now Spent tells = tt
 told-of-tables shipped told told_now faults faults_now (NotImage side) tells = tells
 told-of-tables shipped told told_now faults faults_now NoTable tells = tells
 told-of-tables shipped told told_now faults faults_now OtherForm tells = tells
+
+-- .. and that line alone was written
+pub told-line : {K : Type 0} (count : ℕ) (out out_now : K) (shipped : ℕ) (told told_now : Option (List ℕ)) (faults faults_now : ℕ) (status : ShipStatus) → shipped ≤ count → TellsShipped shipped told told_now faults faults_now status →
+    WritesLine count out out_now told told_now status
+told-line count out out_now shipped told told_now faults faults_now (Done n) few tells = subst (λ (m : ℕ). Appends told told_now (shipped_text m)) (sym tells.0) tells.1
+told-line count out out_now shipped told told_now faults faults_now OutWrite few tells = (shipped, few, tells.0)
+told-line count out out_now shipped told told_now faults faults_now NoMemory few tells = absurd tells
+told-line count out out_now shipped told told_now faults faults_now (Device side) few tells = absurd tells
+told-line count out out_now shipped told told_now faults faults_now (BadImage side table) few tells = absurd tells
+told-line count out out_now shipped told told_now faults faults_now (Gap last oldest) few tells = absurd tells
+told-line count out out_now shipped told told_now faults faults_now Spent few tells = absurd tells
+told-line count out out_now shipped told told_now faults faults_now (NotImage side) few tells = absurd tells
+told-line count out out_now shipped told told_now faults faults_now NoTable few tells = absurd tells
+told-line count out out_now shipped told told_now faults faults_now OtherForm few tells = absurd tells
+
+-- a ship that has begun with neither medium has written nothing
+pub early-line : {K : Type 0} (count : ℕ) (out : K) (told : Option (List ℕ)) (status : ShipStatus) → IsEarly status → WritesLine count out out told told status
+early-line count out told NoMemory early = refl
+early-line count out told (NotImage side) early = refl
+early-line count out told (Device side) early = refl
+early-line count out told NoTable early = refl
+early-line count out told OtherForm early = refl
+early-line count out told (Done shipped) early = absurd early
+early-line count out told OutWrite early = absurd early
+early-line count out told (BadImage side table) early = absurd early
+early-line count out told (Gap last oldest) early = absurd early
+early-line count out told Spent early = absurd early
 
 -- ---- a ship of a table that stopped
 
@@ -133,6 +167,9 @@ stop-of-tables why at = stop-cases IsOfTables at (λ last oldest. tt) tt tt tt t
 
 pub stop-quiet : (why : Stop) (at : ℕ) → stop_status why at ≡ OutWrite → ⊥
 stop-quiet why at = stop-cases (λ (status : ShipStatus). status ≡ OutWrite → ⊥) at (λ last oldest is. cc is) (λ is. cc is) (λ is. cc is) (λ is. cc is) (λ is. cc is) (λ is. cc is) why
+
+pub stop-line : {K : Type 0} (count : ℕ) (out : K) (told : Option (List ℕ)) (why : Stop) (at : ℕ) → WritesLine count out out told told (stop_status why at)
+stop-line count out told why at = stop-cases (λ (status : ShipStatus). WritesLine count out out told told status) at (λ last oldest. refl) refl refl refl refl refl why
 
 -- the source's table at the place is told bad, and no other
 pub stop-place : (side : Side) (table : ℕ) (why : Stop) (at : ℕ) → stop_status why at ≡ BadImage side table → (Source ≡ side) × (at ≡ table)

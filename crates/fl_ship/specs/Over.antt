@@ -1,5 +1,6 @@
 -- What a ship does over any bytes and on any media.
-use Rattle.std.specs.Prelude.{◌≡◌, ◌⊎◌, ℕ, ◌≤◌, IsTrue, None, Some, Result, Ok, Err, List, [], slice_get}
+use Rattle.std.specs.Prelude.{◌≡◌, ◌⊎◌, ℕ, ◌≤◌, IsTrue, Option, None, Some, Result, Ok, Err, List, [], slice_get}
+use Rattle.fl_base.specs.Causes.{Appends, AppendsFront}
 use Rattle.fl_config.specs.Whole.{Makes}
 use Rattle.fl_flash.specs.Flash.{FlashState, Goes}
 use Rattle.fl_flash.specs.Media.{MediaState}
@@ -17,7 +18,9 @@ use Rattle.fl_table.specs.Look.{last_key_in}
 use Rattle.fl_words.specs.Config.{Lines}
 use Rattle.fl_store.specs.NewImage.{made_image}
 use Rattle.fl_ship.specs.Ready.{IsEarly}
+use Rattle.fl_ship.specs.Rows.{HasFewNumbers}
 use Rattle.fl_ship.specs.Tables.{mount_status}
+use Rattle.fl_ship.specs.Text.{shipped_text}
 use Rattle.fl_ship.specs.declared.side.Side.TheVariants.{Source, Copy}
 use Rattle.fl_ship.specs.declared.status.ShipStatus.{ShipStatus}
 use Rattle.fl_ship.specs.declared.status.ShipStatus.TheVariants.{Done, OutWrite, NoMemory, NotImage, Device, BadImage, NoTable, Gap, OtherForm, Spent}
@@ -33,14 +36,21 @@ pub record IsGapOver (sources copies : List Entry) (at last : ℕ) : Type 0 wher
   pub there : slice_get copies at ≡ Some copy
   pub ends : last_key_in (table_in copy.table) ≡ Some last
 
+-- the copy's table at this place has a ring with fewer page numbers left than so many
+pub record IsSpentOver (copies : List Entry) (at count : ℕ) : Type 0 where
+  pub copy : Entry
+  pub there : slice_get copies at ≡ Some copy
+  pub few : HasFewNumbers copy.table count
+
 -- What is told between tables that were mounted: no more records than were asked for; a bad image only of the source's table, of which a
--- page is bad; a gap of the copy's last key, and then nothing of the copy was changed since the mount.
+-- page is bad; a gap of the copy's last key, and then nothing of the copy was changed since the mount; spent numbers only of a copy that
+-- had fewer left than records were asked for.
 abbrev pub Tells : ℕ → ℕ → List Entry → FlashState → List Entry → FlashState → FlashState → ShipStatus → Type 0
 Tells count at sources from copies onto onto_now (Done shipped) = shipped ≤ count
 Tells count at sources from copies onto onto_now (BadImage Source table) = (table ≡ at) × HasBadPage sources at from
 Tells count at sources from copies onto onto_now (BadImage Copy table) = ⊥
 Tells count at sources from copies onto onto_now (Gap last oldest) = IsGapOver sources copies at last × (onto_now ≡ onto)
-Tells count at sources from copies onto onto_now Spent = Unit {0}
+Tells count at sources from copies onto onto_now Spent = IsSpentOver copies at count
 Tells count at sources from copies onto onto_now OutWrite = Unit {0}
 Tells count at sources from copies onto onto_now NoMemory = Unit {0}
 Tells count at sources from copies onto onto_now (Device side) = Unit {0}
@@ -104,3 +114,11 @@ pub record IsMadeInPart (source source_now copy copy_now : MediaState) (status :
 abbrev pub ShipJob : List ℕ → ℕ → MediaState → MediaState → MediaState → MediaState → ShipStatus → Type 0
 ShipJob name count source source_now copy copy_now status =
     (IsEarly status × OnlyLooksAt source source_now × OnlyLooksAt copy copy_now) ⊎ IsMadeInPart source source_now copy copy_now status ⊎ ShipOver name count source source_now copy copy_now status
+
+-- ---- to the output
+
+-- What a ship that ended so has written: how many records it tells as shipped, or a front of that line where the output failed; else nothing.
+abbrev pub WritesLine : {K : Type 0} → ℕ → K → K → Option (List ℕ) → Option (List ℕ) → ShipStatus → Type 0
+WritesLine count out out_now written written_now (Done shipped) = Appends written written_now (shipped_text shipped)
+WritesLine count out out_now written written_now OutWrite = (shipped : ℕ) × (shipped ≤ count) × AppendsFront written written_now (shipped_text shipped)
+WritesLine count out out_now written written_now status = out_now ≡ out

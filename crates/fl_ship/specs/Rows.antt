@@ -1,5 +1,5 @@
 -- How a ship of rows ends, over the flash of the copy.
-use Rattle.std.specs.Prelude.{◌≡◌, ℕ, ◌≤◌, ◌<◌, Bool, true, false, IsTrue, Some, None, Result, Ok, Err, List, [], ◌∷◌, length, take, drop, slice_get}
+use Rattle.std.specs.Prelude.{◌≡◌, ℕ, ◌+◌, ◌≤◌, ◌<◌, Bool, true, false, IsTrue, Some, None, Result, Ok, Err, List, [], ◌∷◌, length, take, drop, slice_get, option_map, unwrap_or}
 use Rattle.fl_flash.specs.Flash.{FlashState}
 use Rattle.fl_flash.specs.declared.flash.FlashFault.{FlashFault}
 use Rattle.fl_flash.specs.declared.flash.FlashFault.TheVariants as flash
@@ -11,14 +11,21 @@ use Rattle.fl_model.specs.Row.{Row}
 use Rattle.fl_model.specs.Ship.{KeepsOf, records_in}
 use Rattle.fl_model.specs.ShipWork.{TableShips}
 use Rattle.fl_model.specs.Table as model
-use Rattle.fl_model.specs.Table.{flushed, lose, refusal_of, table_seals}
+use Rattle.fl_model.specs.Table.{RingName, DataRing, IndexRing, VarRing, LogRing, flushed, lose, refusal_of, spent_from, table_seals}
 use Rattle.fl_model.specs.Work.{Device, PartEnd, PartProgress, Whole}
 use Rattle.fl_page.specs.Causes.{IsCaused}
 use Rattle.fl_frame.specs.Causes.{CausedBy}
 use Rattle.fl_frame.specs.Device.{SameDevice}
 use Rattle.fl_rlc.specs.Logged.{Rests, Stands}
+use Rattle.fl_rlc.specs.Memory as log
+use Rattle.fl_rlc.specs.Table.{log_in, table_in}
 use Rattle.fl_rlc.specs.declared.table.LoggedTable.{LoggedTable}
+use Rattle.fl_parts.specs.Bitmaps as bitmaps
+use Rattle.fl_parts.specs.Blobs as variable
 use Rattle.fl_parts.specs.Failing.{BySeals, FaultEnds}
+use Rattle.fl_table.specs.BlobAt.{data_in}
+use Rattle.fl_table.specs.Look.{index_in}
+use Rattle.fl_table.specs.Memory.{next_in}
 use Rattle.fl_table.specs.declared.faults.FlushFault.TheVariants as flush
 use Rattle.fl_table.specs.declared.faults.PutRefusal.{PutRefusal}
 use Rattle.fl_table.specs.declared.faults.PutRefusal.TheVariants as put
@@ -54,6 +61,23 @@ goes_on (Ok n) = true
 goes_on (Err (Read fault)) = true
 goes_on (Err (Put put.Spent)) = true
 goes_on (Err fault) = false
+
+-- ---- page numbers
+
+-- the number of the next page of a ring of a table, 0 where it has no such ring
+abbrev pub next_number : LoggedTable 64 64 → RingName → ℕ
+next_number t DataRing = next_in (table_in t)
+next_number t IndexRing = bitmaps.next_of (index_in (table_in t))
+next_number t VarRing = variable.next_of (data_in (table_in t))
+next_number t LogRing = unwrap_or (option_map (λ l. log.next_in l) (log_in t)) 0
+
+-- those of one table are at most so many above those of another
+abbrev pub HaveRisen : LoggedTable 64 64 → ℕ → LoggedTable 64 64 → Type 0
+HaveRisen old n new = (ring : RingName) → next_number new ring ≤ next_number old ring + n
+
+-- a ring of the table has fewer page numbers left than so many
+abbrev pub HasFewNumbers : LoggedTable 64 64 → ℕ → Type 0
+HasFewNumbers t count = (ring : RingName) × (spent_from < next_number t ring + count)
 
 -- ---- no cut is armed
 

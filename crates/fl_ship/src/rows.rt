@@ -5,7 +5,7 @@ ghost use Rattle.fl_store.specs.Works.{Works};
 ghost use Rattle.fl_model.specs.Query.{is_above};
 ghost use Rattle.fl_model.specs.Record.{Plan};
 ghost use Rattle.fl_model.specs.Table as model;
-ghost use Rattle.fl_model.specs.Table.{table_seals};
+ghost use Rattle.fl_model.specs.Table.{RingName, spent_from, table_seals};
 ghost use Rattle.fl_model.specs.Work.{Device};
 ghost use Rattle.fl_ops.specs.Columns.{record_of, records_of};
 ghost use Rattle.fl_ops.specs.Inputs.{Continues};
@@ -22,7 +22,7 @@ ghost use Rattle.fl_table.specs.Causes.{put_breaks};
 ghost use Rattle.fl_table.specs.Look.{last_key_in, layout_in};
 ghost use Rattle.fl_parts.specs.Failing.{BySeals};
 ghost use Rattle.fl_table.specs.declared.faults.PutRefusal.{PutRefusal};
-ghost use Rattle.fl_ship.specs.Rows.{goes_on, AreTaken, FlushCausedBy, FlushesCopy, PutCausedBy, PutsWork, RowsPut, RowsShip, RowsWork, ShipCausedBy, ShipsWork, WorksOn};
+ghost use Rattle.fl_ship.specs.Rows.{goes_on, next_number, AreTaken, FlushCausedBy, FlushesCopy, HasFewNumbers, HaveRisen, PutCausedBy, PutsWork, RowsPut, RowsShip, RowsWork, ShipCausedBy, ShipsWork, WorksOn};
 ghost use Rattle.fl_ship.specs.declared.fault.ShipFault.{ShipFault};
 
 use crate::ShipFault;
@@ -50,6 +50,8 @@ fn put_row<B: Flash>(row: &RowRef<'_>, to: &mut LoggedTable, onto: &mut B) -> Re
     ensures cause { IfErr result (PutCausedBy (B.state onto.old) (B.state onto.new)) }
     ensures refused { IfErr result (λ refusal. RefusedSame to.old (B.state onto.old) refusal to.new (B.state onto.new)) }
     ensures spent { result ≡ Err PutRefusal.Spent → put_refusal to.old (row_of row.now).key (row_of row.now).values None ≡ Some PutRefusal.Spent }
+    ensures spent_ring { result ≡ Err PutRefusal.Spent → (ring : RingName) × (spent_from ≤ next_number to.old ring) }
+    ensures numbers { OnOk result (HaveRisen to.old 1 to.new) }
     ensures last { OnOk result (last_key_in (table_in to.new) ≡ Some (row_of row.now).key) }
     ensures running { is_running to.new ≡ not (put_breaks result) }
     ensures power { OnOk result ((B.state onto.old).is_on ≡ true → (B.state onto.new).is_on ≡ true) }
@@ -87,6 +89,7 @@ fn put_rows<A: Flash, B: Flash, R: Rows<A>>(
     ensures cause { IfErr result (ShipCausedBy (A.state from.old) (A.state from.new) (B.state onto.old) (B.state onto.new)) }
     ensures bad_page { (bad : BadPage) → result ≡ Err (ShipFault.Read (ReadFault.BadPage bad)) → R.passes rows.old (contents_of (A.state from.old)) bad }
     ensures spent { result ≡ Err (ShipFault.Put PutRefusal.Spent) → (key : ℕ) × (values : List ℤ) × (put_refusal to.new key values None ≡ Some PutRefusal.Spent) }
+    ensures numbers { result ≡ Err (ShipFault.Put PutRefusal.Spent) → HasFewNumbers to.old count }
     ensures few { IfOk result (λ shipped. shipped ≤ count) }
     ensures running { is_running to.new ≡ goes_on result }
     ensures power { OnOk result ((B.state onto.old).is_on ≡ true → (B.state onto.new).is_on ≡ true) }
@@ -159,6 +162,8 @@ pub fn ship_rows<A: Flash, B: Flash, R: Rows<A>>(
     ensures cause { IfErr result (ShipCausedBy (A.state from.old) (A.state from.new) (B.state onto.old) (B.state onto.new)) }
     ensures bad_page { (bad : BadPage) → result ≡ Err (ShipFault.Read (ReadFault.BadPage bad)) → R.passes rows.old (contents_of (A.state from.old)) bad }
     ensures spent { result ≡ Err (ShipFault.Put PutRefusal.Spent) → (key : ℕ) × (values : List ℤ) × (put_refusal to.new key values None ≡ Some PutRefusal.Spent) }
+    // .. and before it a ring had fewer page numbers left than rows were asked for, whatever bytes the flash has.
+    ensures numbers { result ≡ Err (ShipFault.Put PutRefusal.Spent) → HasFewNumbers to.old count }
     ensures few { IfOk result (λ shipped. shipped ≤ count) }
     ensures running { is_running to.new ≡ goes_on result }
     // The rows go on behind those that were put, above the copy's last key. Where a read fails, fewer than `count` of them were taken:

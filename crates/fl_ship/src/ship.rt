@@ -11,7 +11,7 @@ ghost use Rattle.fl_words.specs.Medium.{IsImage};
 ghost use Rattle.fl_ship.specs.Ends.{IsCopy, ShipEnds};
 ghost use Rattle.fl_ship.specs.Fits.{AreImagesFor, CopyKeeps, StatusFits, is_refused};
 ghost use Rattle.fl_ship.specs.Media.{bytes_of};
-ghost use Rattle.fl_ship.specs.Over.{ShipJob};
+ghost use Rattle.fl_ship.specs.Over.{ShipJob, WritesLine};
 ghost use Rattle.fl_ship.specs.Tables.{told_of};
 ghost use Rattle.fl_ship.specs.declared.side.Side.{Side};
 ghost use Rattle.fl_ship.specs.declared.status.ShipStatus.{ShipStatus};
@@ -71,6 +71,9 @@ pub fn ship_image<M: Media, C: Media, K: Sink>(
     ensures device { result ≡ ShipStatus.Device Side.Source → Rose (M.state media.old).faults (M.state media.new).faults }
     ensures copy_device { result ≡ ShipStatus.Device Side.Copy → Rose (C.state copy.old).faults (C.state copy.new).faults }
     ensures write { result ≡ ShipStatus.OutWrite → Rose (K.faults out.old) (K.faults out.new) }
+
+    // Nothing is written, over any bytes, but how many records it tells as shipped.
+    ensures line { WritesLine count out.old out.new (K.written out.old) (K.written out.new) result }
 
     // Neither medium changes where they aren't images of one configuration that has the table, and it is shipped.
     ensures changes { IsTrue (M.state media.old).tells → IsTrue (C.state copy.old).tells → AreImagesFor (M.state media.old).content (C.state copy.old).content name true

@@ -18,12 +18,14 @@ ghost use Rattle.fl_rlc.specs.Table.{table_in, IsSamePlan, OutsideStands};
 ghost use Rattle.fl_table.specs.Look.{last_key_in, layout_in};
 ghost use Rattle.fl_table.specs.Memory.{is_running, LiesOn};
 ghost use Rattle.fl_table.specs.Standing.{Stands};
+ghost use Rattle.fl_table.specs.declared.faults.PutRefusal.{PutRefusal};
 ghost use Rattle.fl_store.specs.Repaired.{IsLeft};
 ghost use Rattle.fl_store.specs.Tables.{IsNamed, LieOn, TablesStand};
 ghost use Rattle.fl_frame.specs.Causes.{IsUnarmed};
 ghost use Rattle.fl_store.specs.declared.tables.Entry.{Entry};
 ghost use Rattle.fl_ship.specs.Ends.{TablesShip};
-ghost use Rattle.fl_ship.specs.Over.{ShipsBetween};
+ghost use Rattle.fl_ship.specs.Over.{ShipsBetween, WritesLine};
+ghost use Rattle.fl_ship.specs.Rows.{HasFewNumbers};
 ghost use Rattle.fl_ship.specs.Tables.{HaveOneForm, IsOfTables, ShipLeaves, StopCausedBy, TellsShipped, standing_on, told_of};
 ghost use Rattle.fl_ship.specs.declared.fault.ShipFault.{ShipFault};
 ghost use Rattle.fl_ship.specs.declared.side.Side.{Side};
@@ -68,6 +70,7 @@ fn ship_table<A: Flash, B: Flash>(
     ensures gap { (last oldest : ℕ) → result ≡ Err (Stop.Gap last oldest) → (last_key_in (table_in copy.old) ≡ Some last) × (last_key_in source.now ≡ None → ⊥) }
     ensures gap_leaves { (last oldest : ℕ) → result ≡ Err (Stop.Gap last oldest) → B.state onto.new ≡ B.state onto.old }
     ensures bad_page { (bad : BadPage) → result ≡ Err (Stop.Ship (ShipFault.Read (ReadFault.BadPage bad))) → MayBeBad source.now (contents_of (A.state from.old)) bad }
+    ensures numbers { result ≡ Err (Stop.Ship (ShipFault.Put PutRefusal.Spent)) → HasFewNumbers copy.old count }
     ensures few { IfOk result (λ shipped. shipped ≤ count) }
     ensures reads_only { OnlyReads (A.state from.old) (A.state from.new) }
     ensures goes { Goes (B.state onto.old) (B.state onto.new) }
@@ -149,6 +152,7 @@ pub(crate) fn ship_on<A: Flash, B: Flash, K: Sink>(
     ensures device { result ≡ ShipStatus.Device Side.Source → Rose (A.state from.old).media.faults (A.state from.new).media.faults }
     ensures copy_device { result ≡ ShipStatus.Device Side.Copy → Rose (B.state onto.old).media.faults (B.state onto.new).media.faults }
     ensures write { result ≡ ShipStatus.OutWrite → Rose (K.faults out.old) (K.faults out.new) }
+    ensures line { WritesLine count out.old out.new (K.written out.old) (K.written out.new) result }
     ensures bad { (side : Side) (table : ℕ) → result ≡ ShipStatus.BadImage side table → table < length sources.old.entries.items }
     ensures later { K.faults out.old ≤ K.faults out.new }
     ensures goes { Goes (A.state from.old) (A.state from.new) }

@@ -22,6 +22,7 @@ returns g c =
       device = did.device;
       copy_device = did.copy_device;
       write = did.write;
+      line = did.line;
       later = did.later;
       keeps = did.keeps;
       copy_keeps = did.copy_keeps;

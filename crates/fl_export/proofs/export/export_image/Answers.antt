@@ -129,7 +129,7 @@ returns-in_default-clause-over g c = inl (tt, c.in-Ok.ensures.looks)
 pub returns-clause-over : goal.returns-clause-over
 returns-clause-over g c =
     let e = given-back g c in
-    inr (job-over c.args.name (g.M.Media.state c.args.media.now) (g.M.Media.state c.on.new.media) _ c.in-Ok.found _ _ _ (ExportsOver c.export_on-status.result)
+    inr (job-over c.args.name (g.M.Media.state c.args.media.now) (g.M.Media.state c.on.new.media) _ c.in-Ok.found _ _ _ (ExportsOver c.export_on-status.result c.args.out.now c.export_on-status.new.out)
     c.in-Ok.ensures.table c.in-Ok.ensures.looks c.over-flash.ensures.tables c.over-flash.ensures.opened c.export_on-status.ensures.goes (e ∙ c.close-media.ensures.state) c.export_on-status.ensures.over)
 
 pub returns-in-Err-clause-untouched : goal.returns-in-Err-clause-untouched

@@ -117,17 +117,17 @@ returns-in-Err-write_table-clause-goes g c = goes-then _ _ _ c.mount.ensures.goe
 pub returns-in-Err-clause-over : goal.returns-in-Err-clause-over
 returns-in-Err-clause-over g c =
     let e = c.mount.ensures in
-    refuses-over _ _ _ _ c.mount.result (record { found = e.found; refused = e.refused; stops = e.stops; cause = e.cause; running = e.running; none = e.none; power = e.power; as_many = e.as_many; names = e.names; same = e.same; repairs = e.repairs; outside = e.outside }) c.mount_status.result c.args.at c.in-Err.bad c.in-Err.is c.mount_status.ensures
+    refuses-over _ _ _ _ c.mount.result (record { found = e.found; refused = e.refused; stops = e.stops; cause = e.cause; running = e.running; none = e.none; power = e.power; as_many = e.as_many; names = e.names; same = e.same; repairs = e.repairs; outside = e.outside }) c.mount_status.result c.args.out.now c.args.at c.in-Err.bad c.in-Err.is c.mount_status.ensures
 
 pub returns-in-Ok-clause-over : goal.returns-in-Ok-clause-over
 returns-in-Ok-clause-over g c =
     let e = c.mount.ensures in
-    reads-over _ _ _ _ c.mount.result (record { found = e.found; refused = e.refused; stops = e.stops; cause = e.cause; running = e.running; none = e.none; power = e.power; as_many = e.as_many; names = e.names; same = e.same; repairs = e.repairs; outside = e.outside }) Done c.args.at (g.F.Flash.state c.write_table.new.flash) tt c.in_default.is c.write_table.ensures.counts (λ table is. absurd (done-good table is))
+    reads-over _ _ _ _ c.mount.result (record { found = e.found; refused = e.refused; stops = e.stops; cause = e.cause; running = e.running; none = e.none; power = e.power; as_many = e.as_many; names = e.names; same = e.same; repairs = e.repairs; outside = e.outside }) Done c.args.out.now c.write_table.new.out c.args.at (g.F.Flash.state c.write_table.new.flash) tt c.in_default.is c.write_table.ensures.counts (λ table is. absurd (done-good table is))
 
 pub returns-in-Err-write_table-clause-over : goal.returns-in-Err-write_table-clause-over
 returns-in-Err-write_table-clause-over g c =
     let e = c.mount.ensures in
-    reads-over _ _ _ _ c.mount.result (record { found = e.found; refused = e.refused; stops = e.stops; cause = e.cause; running = e.running; none = e.none; power = e.power; as_many = e.as_many; names = e.names; same = e.same; repairs = e.repairs; outside = e.outside }) c.status_of.result c.args.at (g.F.Flash.state c.write_table.new.flash) tt c.in_default.is c.write_table.ensures.counts
+    reads-over _ _ _ _ c.mount.result (record { found = e.found; refused = e.refused; stops = e.stops; cause = e.cause; running = e.running; none = e.none; power = e.power; as_many = e.as_many; names = e.names; same = e.same; repairs = e.repairs; outside = e.outside }) c.status_of.result c.args.out.now c.write_table.new.out c.args.at (g.F.Flash.state c.write_table.new.flash) tt c.in_default.is c.write_table.ensures.counts
     (λ table is. bad-table c.mount.new.self.entries.items c.args.at c.index.result.now c.table-table.result.now (g.F.Flash.state c.mount.new.flash) c.in-Err-write_table.fault c.status_of.result table (entry-at c.mount.new.self.entries.items c.args.at c.index.result.now (omega (arith, c.requires.at, c.mount.ensures.as_many)) c.index.ensures) c.table-table.ensures c.status_of.ensures is c.in-Err-write_table.ensures.bad)
 
 pub returns-in-Err-clause-goes : goal.returns-in-Err-clause-goes

@@ -143,5 +143,5 @@ returns-clause-keeps g c =
 pub returns-clause-over : goal.returns-clause-over
 returns-clause-over g c =
     let e : g.M.Media.state c.media-1.given.0 ≡ g.M.Media.state c.close-media.result.now = search rules in
-    inr (job-over c.args.name (g.M.Media.state c.args.media.now) (g.M.Media.state c.begin.new.media) _ c.in-Ok.begun.found _ _ _ (ImportsOver c.import_on-end.result.status)
+    inr (job-over c.args.name (g.M.Media.state c.args.media.now) (g.M.Media.state c.begin.new.media) _ c.in-Ok.begun.found _ _ _ (ImportsOver c.import_on-end.result c.args.input.now c.import_on-end.new.input c.args.out.now c.import_on-end.new.out)
     c.in-Ok.ensures.table c.in-Ok.ensures.looks c.over-flash.ensures.tables c.over-flash.ensures.opened c.import_on-end.ensures.goes (e ∙ c.close-media.ensures.state) c.import_on-end.ensures.over)

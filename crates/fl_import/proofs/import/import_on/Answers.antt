@@ -1,4 +1,4 @@
-use Rattle.std.proofs.Common.{◌≡◌, inr, true, false, is_some, IsTrue, IfSome, length, refl, sym, ◌∙◌, subst, arith}
+use Rattle.std.proofs.Common.{◌≡◌, inr, true, false, is_some, IsTrue, IfSome, Some, length, refl, sym, ◌∙◌, subst, arith}
 use Rattle.std.proofs.lemmas.Option.{slice_get_within}
 use Rattle.fl_frame.proofs.WatchedInTurn.{unarmed-then}
 use Rattle.fl_frame.proofs.CallsInTurn.{goes-then}
@@ -18,6 +18,7 @@ use Rattle.fl_import.proofs.ImageEnds.{as-end, mount-causes, mount-ended, mount-
 use Rattle.fl_store.proofs.Others.{others-repaired}
 use Rattle.fl_store.proofs.Jobs.{own-changes}
 use Rattle.fl_import.specs.Over.{ImportsOver}
+use Rattle.fl_import.specs.declared.job_end.JobEnd.{JobEnd}
 use Rattle.fl_import.proofs.OverBytes.{puts-over, refuses-over}
 use Rattle.fl_import.proofs.import.import_on.Goals as goal
 
@@ -131,8 +132,8 @@ returns-in-Err-clause-over g c =
     let now = c.mount.new.self.entries.items in
     let f = g.F.Flash.state c.args.flash.now in
     let m = g.F.Flash.state c.mount.new.flash in
-    as-end (λ end. ImportsOver end.status c.args.at c.args.tables.now.entries.items (g.F.Flash.state c.args.flash.now) (g.F.Flash.state c.mount.new.flash)) c.of.result _ _ c.of.ensures c.mount_status.ensures
-    (refuses-over entries now f m c.mount.result (record { found = e.found; refused = e.refused; stops = e.stops; cause = e.cause; running = e.running; none = e.none; power = e.power; as_many = e.as_many; names = e.names; same = e.same; repairs = e.repairs; outside = e.outside }) c.args.at c.in-Err.bad c.in-Err.is)
+    as-end (λ end. ImportsOver end c.args.input.now c.args.input.now c.args.out.now c.args.out.now c.args.at c.args.tables.now.entries.items (g.F.Flash.state c.args.flash.now) (g.F.Flash.state c.mount.new.flash)) c.of.result _ _ c.of.ensures c.mount_status.ensures
+    (refuses-over entries now f m c.mount.result (record { found = e.found; refused = e.refused; stops = e.stops; cause = e.cause; running = e.running; none = e.none; power = e.power; as_many = e.as_many; names = e.names; same = e.same; repairs = e.repairs; outside = e.outside }) c.args.input.now c.args.out.now c.args.at c.in-Err.bad c.in-Err.is)
 
 pub returns-clause-over : goal.returns-clause-over
 returns-clause-over g c =
@@ -142,5 +143,7 @@ returns-clause-over g c =
     let f = g.F.Flash.state c.args.flash.now in
     let m = g.F.Flash.state c.mount.new.flash in
     let h = g.F.Flash.state c.import_table-status.new.flash in
-    puts-over entries now f m c.mount.result (record { found = e.found; refused = e.refused; stops = e.stops; cause = e.cause; running = e.running; none = e.none; power = e.power; as_many = e.as_many; names = e.names; same = e.same; repairs = e.repairs; outside = e.outside }) c.import_table-status.result c.args.at h tt c.in_default.is e.goes (λ table is. table-bad c.import_table-status.result table c.import_table-status.ensures.statuses is)
+    let end : JobEnd = record { status = c.import_table-status.result; kept = c.kept_rows-kept.result; taken = c.import_table-status.new.taken; form = Some c.args.form } in
+    puts-over entries now f m c.mount.result (record { found = e.found; refused = e.refused; stops = e.stops; cause = e.cause; running = e.running; none = e.none; power = e.power; as_many = e.as_many; names = e.names; same = e.same; repairs = e.repairs; outside = e.outside })
+    end c.args.input.now c.import_table-status.new.input c.args.out.now c.import_table-status.new.out c.args.at h tt c.in_default.is e.goes (λ table is. table-bad c.import_table-status.result table c.import_table-status.ensures.statuses is)
     (own-changes entries now c.args.at c.index_mut.result.now m h e.same c.requires.at (entry-at c.mount.new.self.entries.items c.args.at c.index_mut.result.now (omega (arith, c.requires.at, c.mount.ensures.as_many)) c.index_mut.ensures.value) c.import_table-status.ensures.outside)

@@ -21,6 +21,7 @@ use Rattle.fl_ship.specs.Rows.{AreTaken}
 use Rattle.fl_ship.specs.declared.fault.ShipFault.TheVariants.{Read, Put}
 use Rattle.fl_ship.proofs.Faults.{done-not-failed, goes-on-refused, put-caused-later, put-not-read, read-not-put, reads-behind, reads-whole, same-read, told-good}
 use Rattle.fl_ship.proofs.RowsSoFar.{above-next, far-none, far-more, left-behind, number-end, put-end, put-refused, put-unread, put-whole, taken-behind, unread-behind, work-end, work-refused, work-unread, work-whole}
+use Rattle.fl_ship.proofs.Numbers.{few-left, risen-more, risen-none, same-refusal}
 use Rattle.fl_ship.proofs.rows.put_rows.Goals as goal
 
 pub puts-init : goal.puts-init
@@ -42,6 +43,7 @@ puts-init g c = record {
     stays_told = λ is. is;
   };
   reads = λ told. omega arith;
+  numbers = risen-none c.args.to.now;
   far = far-none _ _ _ _;
 }
 
@@ -186,6 +188,7 @@ puts-preserved g c =
           let more = subst (λ (k : Contents). g.R.Rows.told c.puts.rows k → (g.A.Flash.state c.step.new.flash).work.reads + g.R.Rows.most c.step.new.self k ≤ (g.A.Flash.state c.puts.from).work.reads + g.R.Rows.most c.puts.rows k) inv.counts.contents
           c.in_ok-step.ensures.most (inv.input.stays_told told) in
           omega (arith, before, more);
+      numbers = risen-more c.args.to.now c.puts.to c.put_row.new.to c.puts.shipped inv.numbers e.numbers;
       far = far-more _ _ _ _ c.args.count _ _ _ _ inv.far (omega (arith, c.puts-test.true)) (row_of c.row.result) (g.R.Rows.left c.step.new.self (contents_of (g.A.Flash.state c.args.from.now)))
           c.put_row.new.to (g.B.Flash.state c.put_row.new.onto) inv.goes p.goes
           (λ told.
@@ -225,6 +228,11 @@ returns-in_err-step-clause-bad_page g c = λ bad is.
 
 pub returns-in_err-step-clause-spent : goal.returns-in_err-step-clause-spent
 returns-in_err-step-clause-spent g c = λ is.
+    let p = err_from_is_err_and c.from_residual.result c.from_residual.ensures.1 in
+    absurd (read-not-put c.in_err-step.field-0.0 put.Spent (rw (p.1, p.2) at is))
+
+pub returns-in_err-step-clause-numbers : goal.returns-in_err-step-clause-numbers
+returns-in_err-step-clause-numbers g c = λ is.
     let p = err_from_is_err_and c.from_residual.result c.from_residual.ensures.1 in
     absurd (read-not-put c.in_err-step.field-0.0 put.Spent (rw (p.1, p.2) at is))
 
@@ -292,6 +300,9 @@ returns-then-not-branch-clause-bad_page g c = λ bad is. absurd (done-not-failed
 pub returns-then-not-branch-clause-spent : goal.returns-then-not-branch-clause-spent
 returns-then-not-branch-clause-spent g c = λ is. absurd (done-not-failed c.puts.shipped (Put put.Spent) is)
 
+pub returns-then-not-branch-clause-numbers : goal.returns-then-not-branch-clause-numbers
+returns-then-not-branch-clause-numbers g c = λ is. absurd (done-not-failed c.puts.shipped (Put put.Spent) is)
+
 pub returns-then-not-branch-clause-few : goal.returns-then-not-branch-clause-few
 returns-then-not-branch-clause-few g c = le_of_lt c.puts-test.true
 
@@ -357,6 +368,12 @@ returns-in_err-put_row-clause-bad_page g c = λ bad is.
     let p = err_from_is_err_and c.from_residual-in_err-put_row.result c.from_residual-in_err-put_row.ensures.1 in
     absurd (put-not-read c.in_err-put_row.field-0.0 (read.BadPage bad) (rw (p.1, p.2) at is))
 
+pub returns-in_err-put_row-clause-numbers : goal.returns-in_err-put_row-clause-numbers
+returns-in_err-put_row-clause-numbers g c = λ is.
+    let p = err_from_is_err_and c.from_residual-in_err-put_row.result c.from_residual-in_err-put_row.ensures.1 in
+    few-left c.args.to.now c.puts.to c.puts.shipped c.args.count c.puts.invariant.numbers c.puts-test.true
+    (c.in_err-put_row.ensures.spent_ring (same-refusal c.in_err-put_row.field-0.0 put.Spent (rw (p.1, p.2) at is)))
+
 pub returns-in_err-put_row-clause-few : goal.returns-in_err-put_row-clause-few
 returns-in_err-put_row-clause-few g c = let p = err_from_is_err_and c.from_residual-in_err-put_row.result c.from_residual-in_err-put_row.ensures.1 in rw p.1 tt
 
@@ -393,6 +410,9 @@ returns-clause-bad_page g c = λ bad is. absurd (done-not-failed c.args.count (R
 
 pub returns-clause-spent : goal.returns-clause-spent
 returns-clause-spent g c = λ is. absurd (done-not-failed c.args.count (Put put.Spent) is)
+
+pub returns-clause-numbers : goal.returns-clause-numbers
+returns-clause-numbers g c = λ is. absurd (done-not-failed c.args.count (Put put.Spent) is)
 
 pub returns-clause-few : goal.returns-clause-few
 returns-clause-few g c = le_refl c.args.count

@@ -5,6 +5,7 @@ use Rattle.fl_ops.specs.Inputs.{Continues}
 use Rattle.fl_frame.specs.Contents.{contents_of, OnlyReads}
 use Rattle.fl_rlc.specs.Table.{is_running, table_in, IsSamePlan, LiesOn, OutsideStands}
 use Rattle.fl_table.specs.Look.{last_key_in}
+use Rattle.fl_ship.specs.Rows.{HaveRisen}
 use Rattle.fl_ship.proofs.RowsSoFar.{Far}
 use Rattle.fl_ship.proofs.rows.put_rows.Given as goal
 
@@ -26,5 +27,6 @@ invariant-puts g l =
       above : (last key : ℕ) → last_key_in (table_in l.to) ≡ Some last → is_above (H.above l.rows) key ≡ true → last < key;
       input : Continues R.names H.schema H.above R.ready R.told R.passes held l.fn.rows l.rows;
       reads : R.told l.fn.rows held → (A.state l.from).work.reads + R.most l.rows held ≤ (A.state l.fn.from).work.reads + R.most l.fn.rows held;
+      numbers : HaveRisen l.fn.to l.shipped l.to;
       far : Far (R.told l.fn.rows held) (R.left l.fn.rows held) (R.left l.rows held) l.shipped l.fn.to (B.state l.fn.onto) l.to (B.state l.onto);
     }

@@ -103,6 +103,9 @@ returns-in_err-shipped-clause-bad_page g c = let p = err_from_is_err_and c.from_
 pub returns-in_err-shipped-clause-spent : goal.returns-in_err-shipped-clause-spent
 returns-in_err-shipped-clause-spent g c = let p = err_from_is_err_and c.from_residual.result c.from_residual.ensures.1 in rw (p.1, p.2) c.in_err-shipped.ensures.spent
 
+pub returns-in_err-shipped-clause-numbers : goal.returns-in_err-shipped-clause-numbers
+returns-in_err-shipped-clause-numbers g c = let p = err_from_is_err_and c.from_residual.result c.from_residual.ensures.1 in rw (p.1, p.2) c.in_err-shipped.ensures.numbers
+
 pub returns-in_err-shipped-clause-running : goal.returns-in_err-shipped-clause-running
 returns-in_err-shipped-clause-running g c = let p = err_from_is_err_and c.from_residual.result c.from_residual.ensures.1 in rw (p.1, p.2) c.in_err-shipped.ensures.running
 
@@ -167,6 +170,11 @@ returns-in_err-flush_copy-clause-spent g c = λ is.
     let p = err_from_is_err_and c.from_residual-in_err-flush_copy.result c.from_residual-in_err-flush_copy.ensures.1 in
     absurd (flush-not-put (g.A.Flash.state c.args.from.now) (g.A.Flash.state c.put_rows.new.from) (g.B.Flash.state c.put_rows.new.onto) (g.B.Flash.state c.flush_copy.new.onto) c.in_err-flush_copy.field-0.0 c.in_err-flush_copy.ensures.cause put.Spent (rw (p.1, p.2) at is))
 
+pub returns-in_err-flush_copy-clause-numbers : goal.returns-in_err-flush_copy-clause-numbers
+returns-in_err-flush_copy-clause-numbers g c = λ is.
+    let p = err_from_is_err_and c.from_residual-in_err-flush_copy.result c.from_residual-in_err-flush_copy.ensures.1 in
+    absurd (flush-not-put (g.A.Flash.state c.args.from.now) (g.A.Flash.state c.put_rows.new.from) (g.B.Flash.state c.put_rows.new.onto) (g.B.Flash.state c.flush_copy.new.onto) c.in_err-flush_copy.field-0.0 c.in_err-flush_copy.ensures.cause put.Spent (rw (p.1, p.2) at is))
+
 pub returns-in_err-flush_copy-clause-unread : goal.returns-in_err-flush_copy-clause-unread
 returns-in_err-flush_copy-clause-unread g c = λ told fault is.
     let p = err_from_is_err_and c.from_residual-in_err-flush_copy.result c.from_residual-in_err-flush_copy.ensures.1 in
@@ -205,6 +213,9 @@ returns-clause-bad_page g c = λ bad is. absurd (done-not-failed c.in_ok-shipped
 
 pub returns-clause-spent : goal.returns-clause-spent
 returns-clause-spent g c = λ is. absurd (done-not-failed c.in_ok-shipped.shipped (Put put.Spent) is)
+
+pub returns-clause-numbers : goal.returns-clause-numbers
+returns-clause-numbers g c = λ is. absurd (done-not-failed c.in_ok-shipped.shipped (Put put.Spent) is)
 
 pub returns-clause-unread : goal.returns-clause-unread
 returns-clause-unread g c = λ told fault is. absurd (done-not-failed c.in_ok-shipped.shipped (Read fault) is)

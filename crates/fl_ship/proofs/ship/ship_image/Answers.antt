@@ -29,7 +29,8 @@ use Rattle.fl_ship.proofs.Causes.{copy-keeps, fits-table, half-keeps, images-for
 use Rattle.fl_ship.proofs.ImageEnds.{copy-known, copy-made, copy-makes, formed, half-made, image-some, made-length, table-ends}
 use Rattle.fl_ship.proofs.MediaEnds.{store-ends}
 use Rattle.fl_ship.proofs.Forms.{one-form}
-use Rattle.fl_ship.proofs.Statuses.{not-refused}
+use Rattle.fl_ship.specs.Over.{WritesLine}
+use Rattle.fl_ship.proofs.Statuses.{early-line, not-refused}
 use Rattle.fl_ship.proofs.ship.ship_image.Given.{Over}
 use Rattle.fl_ship.proofs.ship.ship_image.Goals as goal
 
@@ -104,6 +105,9 @@ returns-in-Err-clause-changes g c = λ tells copy_tells. inr (c.in-Err.ensures.l
 pub returns-in-Err-clause-untouched : goal.returns-in-Err-clause-untouched
 returns-in-Err-clause-untouched g c = λ refused. (c.in-Err.ensures.looks, c.in-Err.ensures.copy_looks, refl)
 
+pub returns-in-Err-clause-line : goal.returns-in-Err-clause-line
+returns-in-Err-clause-line g c = early-line c.args.count c.args.out.now (g.K.Sink.written c.args.out.now) c.in-Err.status c.in-Err.ensures.early
+
 pub returns-in-Err-clause-keeps : goal.returns-in-Err-clause-keeps
 returns-in-Err-clause-keeps g c = looks-keeps _ _ c.in-Err.ensures.looks
 
@@ -158,6 +162,9 @@ returns-in-Err-make_copy-clause-changes g c = λ tells copy_tells.
 
 pub returns-in-Err-make_copy-clause-untouched : goal.returns-in-Err-make_copy-clause-untouched
 returns-in-Err-make_copy-clause-untouched g c = λ refused. absurd (no-refusal _ c.in-Err-make_copy.ensures.failed.0 refused)
+
+pub returns-in-Err-make_copy-clause-line : goal.returns-in-Err-make_copy-clause-line
+returns-in-Err-make_copy-clause-line g c = subst (WritesLine c.args.count c.args.out.now c.args.out.now (g.K.Sink.written c.args.out.now) (g.K.Sink.written c.args.out.now)) (sym c.in-Err-make_copy.ensures.failed.0) refl
 
 pub returns-in-Err-make_copy-clause-keeps : goal.returns-in-Err-make_copy-clause-keeps
 returns-in-Err-make_copy-clause-keeps g c = looks-keeps _ _ c.in-Ok.ensures.looks
@@ -323,6 +330,9 @@ returns-clause-changes g c = λ tells copy_tells.
 
 pub returns-clause-untouched : goal.returns-clause-untouched
 returns-clause-untouched g c = λ refused. absurd (not-refused c.ship_on-status.result c.ship_on-status.ensures.statuses refused)
+
+pub returns-clause-line : goal.returns-clause-line
+returns-clause-line g c = c.ship_on-status.ensures.line
 
 pub returns-clause-keeps : goal.returns-clause-keeps
 returns-clause-keeps g c =

@@ -25,10 +25,10 @@ use Rattle.fl_ship.specs.declared.side.Side.TheVariants.{Source, Copy}
 use Rattle.fl_ship.specs.declared.stop.Stop.{Stop}
 use Rattle.fl_ship.proofs.Forms.{form-after}
 use Rattle.fl_ship.proofs.FlashEnds.{source-fails, copy-fails, shipped, stopped, broken-left, broken-device, read-left, mounted-left, changed-left}
-use Rattle.fl_ship.proofs.Statuses.{mount-place, good-device, stop-good, mount-rose, mount-side, mount-of-tables, mount-quiet, sides-apart, stop-of-tables, stop-place, stop-quiet, stop-rose, told-is, told-of-tables}
+use Rattle.fl_ship.proofs.Statuses.{mount-place, good-device, stop-good, stop-line, mount-rose, mount-side, mount-of-tables, mount-line, mount-quiet, sides-apart, stop-of-tables, stop-place, stop-quiet, stop-rose, told-is, told-line, told-of-tables}
 use Rattle.fl_store.specs.MountsOver.{MountsOver}
 use Rattle.fl_store.proofs.Jobs.{own-changes}
-use Rattle.fl_ship.proofs.OverBytes.{bad-there, copy-refused, gap-there, source-refused, tables-shipped, tells-shipped, tells-stopped}
+use Rattle.fl_ship.proofs.OverBytes.{bad-there, copy-refused, gap-there, source-refused, spent-there, tables-shipped, tells-shipped, tells-stopped}
 use Rattle.fl_ship.proofs.tables.ship_on.Goals as goal
 
 -- ---- the source's tables aren't mounted
@@ -398,11 +398,12 @@ returns-in-Err-ship_table-clause-over g c =
     let c_here = entry-at c.mount-2.new.self.entries.items c.args.at c.index_mut.result.now (subst (λ (n : ℕ). c.args.at < n) (sym (c.mount-2.ensures.as_many ∙ c.requires.as_many)) c.requires.at) c.index_mut.ensures.value in
     let within = subst (λ (n : ℕ). c.args.at < n) (sym c.requires.as_many) c.requires.at in
     let changes = own-changes c.args.copies.now.entries.items c.mount-2.new.self.entries.items c.args.at c.index_mut.result.now (g.B.Flash.state c.mount-2.new.flash) (g.B.Flash.state c.ship_table.new.onto) d.same within c_here c.ship_table.ensures.outside in
-    let tells = tells-stopped c.args.count c.args.at c.mount.new.self.entries.items (g.A.Flash.state c.mount.new.flash) c.mount-2.new.self.entries.items (g.B.Flash.state c.mount-2.new.flash) (g.B.Flash.state c.ship_table.new.onto) c.in-Err-ship_table.stop
+    let tells = tells-stopped c.args.count c.args.at c.mount.new.self.entries.items (g.A.Flash.state c.mount.new.flash) c.mount-2.new.self.entries.items (g.B.Flash.state c.mount-2.new.flash) (g.B.Flash.state c.ship_table.new.onto) (g.A.Flash.state c.ship_table.new.from) c.in-Err-ship_table.stop c.in-Err-ship_table.ensures.cause
     (λ bad is. bad-there c.mount.new.self.entries.items c.args.at c.index.result.now c.table-source.result.now (g.A.Flash.state c.mount.new.flash) bad here c.table-source.ensures (c.ship_table.ensures.bad_page bad (c.in-Err-ship_table.is ∙ ap (λ (s : Stop). Err s) is)))
     (λ last oldest is.
     let stops = c.in-Err-ship_table.is ∙ ap (λ (s : Stop). Err s) is in
-    (gap-there c.mount.new.self.entries.items c.mount-2.new.self.entries.items c.args.at last c.index.result.now c.index_mut.result.now c.table-source.result.now here c_here c.table-source.ensures (c.ship_table.ensures.gap last oldest stops), c.ship_table.ensures.gap_leaves last oldest stops)) in
+    (gap-there c.mount.new.self.entries.items c.mount-2.new.self.entries.items c.args.at last c.index.result.now c.index_mut.result.now c.table-source.result.now here c_here c.table-source.ensures (c.ship_table.ensures.gap last oldest stops), c.ship_table.ensures.gap_leaves last oldest stops))
+    (λ is. spent-there c.mount-2.new.self.entries.items c.args.at c.args.count c.index_mut.result.now c_here (c.ship_table.ensures.numbers (c.in-Err-ship_table.is ∙ ap (λ (s : Stop). Err s) is))) in
     rw c.stop_status.ensures
     (tables-shipped c.args.count c.args.at _ _ _ _ c.mount.result mounts c.args.copies.now.entries.items (g.B.Flash.state c.args.onto.now) tt c.in_default.is _ _ c.mount-2.result c_mounts _
     (g.A.Flash.state c.ship_table.new.from) (g.B.Flash.state c.ship_table.new.onto) tt c.in_default-mount.is d.goes c.ship_table.ensures.reads_only changes tells)
@@ -427,6 +428,9 @@ returns-in-Err-clause-write g c = λ is. absurd (mount-quiet Source c.in-Err.bad
 pub returns-in-Err-clause-later : goal.returns-in-Err-clause-later
 returns-in-Err-clause-later g c = le_refl (g.K.Sink.faults c.args.out.now)
 
+pub returns-in-Err-clause-line : goal.returns-in-Err-clause-line
+returns-in-Err-clause-line g c = rw c.mount_status.ensures (mount-line c.args.count c.args.out.now (g.K.Sink.written c.args.out.now) Source c.in-Err.bad.fault c.in-Err.bad.at)
+
 pub returns-in-Err-mount-clause-good : goal.returns-in-Err-mount-clause-good
 returns-in-Err-mount-clause-good g c = λ plans ts name table tells on calm stand named is. sides-apart (sym (mount-side Copy Source c.in-Err-mount.bad.fault c.in-Err-mount.bad.at table (sym c.mount_status-in-Err-mount.ensures ∙ is)))
 
@@ -438,6 +442,9 @@ returns-in-Err-mount-clause-write g c = λ is. absurd (mount-quiet Copy c.in-Err
 
 pub returns-in-Err-mount-clause-later : goal.returns-in-Err-mount-clause-later
 returns-in-Err-mount-clause-later g c = le_refl (g.K.Sink.faults c.args.out.now)
+
+pub returns-in-Err-mount-clause-line : goal.returns-in-Err-mount-clause-line
+returns-in-Err-mount-clause-line g c = rw c.mount_status-in-Err-mount.ensures (mount-line c.args.count c.args.out.now (g.K.Sink.written c.args.out.now) Copy c.in-Err-mount.bad.fault c.in-Err-mount.bad.at)
 
 pub returns-in-Ok-clause-good : goal.returns-in-Ok-clause-good
 returns-in-Ok-clause-good g c = λ plans ts name table tells on calm stand named is. told-is _ _ _ _ _ c.told.result _ c.told.ensures.tells is
@@ -460,6 +467,9 @@ returns-in-Ok-clause-write g c = λ is. (told-is _ _ _ _ _ c.told.result _ c.tol
 pub returns-in-Ok-clause-bad : goal.returns-in-Ok-clause-bad
 returns-in-Ok-clause-bad g c = λ side table is. absurd (told-is _ _ _ _ _ c.told.result _ c.told.ensures.tells is)
 
+pub returns-in-Ok-clause-line : goal.returns-in-Ok-clause-line
+returns-in-Ok-clause-line g c = told-line c.args.count c.args.out.now c.told.new.out c.in-Ok.shipped _ _ _ _ c.told.result c.in-Ok.ensures.few c.told.ensures.tells
+
 pub returns-in-Err-ship_table-clause-good_copy : goal.returns-in-Err-ship_table-clause-good_copy
 returns-in-Err-ship_table-clause-good_copy g c = λ plans cs name table tells on calm stand named is. sides-apart (stop-place Copy table c.in-Err-ship_table.stop c.args.at (sym c.stop_status.ensures ∙ is)).0
 
@@ -475,6 +485,9 @@ returns-in-Err-ship_table-clause-bad g c = λ side table is.
 
 pub returns-in-Err-ship_table-clause-later : goal.returns-in-Err-ship_table-clause-later
 returns-in-Err-ship_table-clause-later g c = le_refl (g.K.Sink.faults c.args.out.now)
+
+pub returns-in-Err-ship_table-clause-line : goal.returns-in-Err-ship_table-clause-line
+returns-in-Err-ship_table-clause-line g c = rw c.stop_status.ensures (stop-line c.args.count c.args.out.now (g.K.Sink.written c.args.out.now) c.in-Err-ship_table.stop c.args.at)
 
 pub mount-requires-clause-lie : goal.mount-requires-clause-lie
 mount-requires-clause-lie g c = c.requires.lie

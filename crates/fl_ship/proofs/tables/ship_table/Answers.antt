@@ -14,12 +14,14 @@ use Rattle.fl_table.specs.Look.{layout_in}
 use Rattle.fl_store.proofs.CallsInTurn.{same-plan}
 use Rattle.fl_store.proofs.TablesChanged.{off-rests}
 use Rattle.fl_ship.specs.declared.fault.ShipFault.{ShipFault}
-use Rattle.fl_ship.specs.declared.fault.ShipFault.TheVariants.{Read}
+use Rattle.fl_ship.specs.declared.fault.ShipFault.TheVariants.{Put, Read}
 use Rattle.fl_ship.specs.declared.stop.Stop.{Stop}
 use Rattle.fl_ship.specs.declared.stop.Stop.TheVariants as stop
-use Rattle.fl_ship.proofs.Faults.{done-not-failed, flush-caused, flush-good, look-caused, none-shipped, ship-no-gap}
+use Rattle.fl_ship.specs.Missing.{LookCausedBy}
+use Rattle.fl_ship.proofs.Faults.{done-not-failed, flush-caused, flush-good, flush-not-put, look-caused, none-shipped, ship-no-gap}
 use Rattle.fl_ship.proofs.OneTable.{caused-later, flush-rests, leaves-gap, leaves-none, leaves-shipped, leaves-stopped, leaves-unflushed, look-good, same-fault, same-stop, source-plain, table-stands, wanted-are}
 use Rattle.fl_cursor.specs.Cursor.{MayBeBad}
+use Rattle.fl_table.specs.declared.faults.PutRefusal.TheVariants as put
 use Rattle.fl_table.specs.declared.table.Table.{Table}
 use Rattle.fl_ship.proofs.tables.ship_table.Goals as goal
 
@@ -145,6 +147,11 @@ returns-in_err-look_for_gap-clause-cause g c =
 pub returns-in_err-look_for_gap-clause-gap_leaves : goal.returns-in_err-look_for_gap-clause-gap_leaves
 returns-in_err-look_for_gap-clause-gap_leaves g c = λ last oldest is. refl
 
+pub returns-in_err-look_for_gap-clause-numbers : goal.returns-in_err-look_for_gap-clause-numbers
+returns-in_err-look_for_gap-clause-numbers g c = λ is.
+    let p = err_from_is_err_and c.from_residual.result c.from_residual.ensures.1 in
+    absurd (subst (LookCausedBy (g.A.Flash.state c.args.from.now) (g.A.Flash.state c.look_for_gap.new.from)) (same-stop c.in_err-look_for_gap.field-0.0 (stop.Ship (Put put.Spent)) (rw (p.1, p.2) at is)) c.in_err-look_for_gap.ensures.cause)
+
 pub returns-in_err-look_for_gap-clause-few : goal.returns-in_err-look_for_gap-clause-few
 returns-in_err-look_for_gap-clause-few g c = let p = err_from_is_err_and c.from_residual.result c.from_residual.ensures.1 in rw p.1 tt
 
@@ -190,6 +197,12 @@ returns-in_err-flush_copy-clause-bad_page g c = λ bad is.
     let p = err_from_is_err_and c.from_residual-in_err-flush_copy.result c.from_residual-in_err-flush_copy.ensures.1 in
     absurd (flush-good (g.A.Flash.state c.args.from.now) (g.A.Flash.state c.look_for_gap.new.from) (g.B.Flash.state c.args.onto.now) (g.B.Flash.state c.flush_copy.new.onto) c.in_err-flush_copy.field-0.0 c.in_err-flush_copy.ensures.cause bad (rw (p.1, p.2) at is))
 
+pub returns-in_err-flush_copy-clause-numbers : goal.returns-in_err-flush_copy-clause-numbers
+returns-in_err-flush_copy-clause-numbers g c = λ is.
+    let p = err_from_is_err_and c.from_residual-in_err-flush_copy.result c.from_residual-in_err-flush_copy.ensures.1 in
+    absurd (flush-not-put (g.A.Flash.state c.args.from.now) (g.A.Flash.state c.look_for_gap.new.from) (g.B.Flash.state c.args.onto.now) (g.B.Flash.state c.flush_copy.new.onto) c.in_err-flush_copy.field-0.0 c.in_err-flush_copy.ensures.cause put.Spent
+    (same-fault c.in_err-flush_copy.field-0.0 (Put put.Spent) (rw (p.1, p.2) at is)))
+
 pub returns-in_err-flush_copy-clause-few : goal.returns-in_err-flush_copy-clause-few
 returns-in_err-flush_copy-clause-few g c = let p = err_from_is_err_and c.from_residual-in_err-flush_copy.result c.from_residual-in_err-flush_copy.ensures.1 in rw p.1 tt
 
@@ -222,6 +235,9 @@ returns-in_default-clause-gap_leaves g c = λ last oldest is. absurd (done-not-f
 pub returns-in_default-clause-bad_page : goal.returns-in_default-clause-bad_page
 returns-in_default-clause-bad_page g c = λ bad is. absurd (done-not-failed 0 (stop.Ship (Read (read.BadPage bad))) is)
 
+pub returns-in_default-clause-numbers : goal.returns-in_default-clause-numbers
+returns-in_default-clause-numbers g c = λ is. absurd (done-not-failed 0 (stop.Ship (Put put.Spent)) is)
+
 pub returns-in_default-clause-few : goal.returns-in_default-clause-few
 returns-in_default-clause-few g c = none-shipped c.args.count
 
@@ -252,6 +268,11 @@ returns-in_err-shipped-clause-gap_leaves g c = λ last oldest is.
     let p = err_from_is_err_and c.from_residual-in_err-shipped.result c.from_residual-in_err-shipped.ensures.1 in
     absurd (ship-no-gap c.in_err-shipped.field-0.0 last oldest (rw (p.1, p.2) at is))
 
+pub returns-in_err-shipped-clause-numbers : goal.returns-in_err-shipped-clause-numbers
+returns-in_err-shipped-clause-numbers g c = λ is.
+    let p = err_from_is_err_and c.from_residual-in_err-shipped.result c.from_residual-in_err-shipped.ensures.1 in
+    c.in_err-shipped.ensures.numbers (same-fault c.in_err-shipped.field-0.0 (Put put.Spent) (rw (p.1, p.2) at is))
+
 pub returns-in_err-shipped-clause-few : goal.returns-in_err-shipped-clause-few
 returns-in_err-shipped-clause-few g c = let p = err_from_is_err_and c.from_residual-in_err-shipped.result c.from_residual-in_err-shipped.ensures.1 in rw p.1 tt
 
@@ -280,6 +301,9 @@ returns-clause-gap_leaves g c = λ last oldest is. absurd (done-not-failed c.in_
 
 pub returns-clause-bad_page : goal.returns-clause-bad_page
 returns-clause-bad_page g c = λ bad is. absurd (done-not-failed c.in_ok-shipped.field-0 (stop.Ship (Read (read.BadPage bad))) is)
+
+pub returns-clause-numbers : goal.returns-clause-numbers
+returns-clause-numbers g c = λ is. absurd (done-not-failed c.in_ok-shipped.field-0 (stop.Ship (Put put.Spent)) is)
 
 pub returns-clause-few : goal.returns-clause-few
 returns-clause-few g c = c.in_ok-shipped.ensures.few
