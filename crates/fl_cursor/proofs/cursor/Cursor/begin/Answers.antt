@@ -56,3 +56,24 @@ returns-clause-ready g c = λ f lies rows index. c.resume.ensures.ready f lies (
 
 pub returns-clause-sound : goal.returns-clause-sound
 returns-clause-sound g c = λ contents s. subst (λ (a : query.Cursor). IsSoundOver c.args.table.now contents a) (sym (ap asked_by c.resume.ensures.mark)) (c.resume.ensures.sound contents s)
+
+pub returns-clause-mark : goal.returns-clause-mark
+returns-clause-mark g c = c.resume.ensures.mark ∙ ap (λ (top : Option ℕ). record { after = None; top = top; range = c.args.range; span = c.args.span }) c.last_wanted-top.ensures.exact
+
+pub returns-clause-table : goal.returns-clause-table
+returns-clause-table g c = c.resume.ensures.table
+
+pub returns-clause-rows_name : goal.returns-clause-rows_name
+returns-clause-rows_name g c = c.resume.ensures.rows_name
+
+pub returns-clause-index_name : goal.returns-clause-index_name
+returns-clause-index_name g c = c.resume.ensures.index_name
+
+pub returns-clause-index_forget : goal.returns-clause-index_forget
+returns-clause-index_forget g c = c.resume.ensures.index_forget
+
+pub returns-clause-told : goal.returns-clause-told
+returns-clause-told g c = c.resume.ensures.told
+
+pub returns-clause-rows_forget : goal.returns-clause-rows_forget
+returns-clause-rows_forget g c = c.resume.ensures.rows_page ∙ c.forget.ensures
