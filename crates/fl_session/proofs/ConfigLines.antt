@@ -18,7 +18,7 @@ use Rattle.fl_lines.specs.Taken.{TakesFew}
 use Rattle.std.proofs.lemmas.List.{drop_all}
 use Rattle.fl_session.specs.Next.{NextCommand, EndsThere, IsRefused}
 use Rattle.fl_session.specs.Loop.{Tail}
-use Rattle.fl_session.specs.Begin.{IsFresh, GoesOn, EndsIt, Refuses, AtCommand, AtEnd, EndsInConfig, EndsBegin, BeginsAt, ConfiguresBy}
+use Rattle.fl_session.specs.Begin.{IsFresh, GoesOn, EndsIt, Refuses, AtCommand, AtEnd, EndsInConfig, EndsBegin, BeginsAt, ConfiguresBy, HoldsFirst}
 use Rattle.fl_lines.specs.declared.lines.LinesFault.{LinesFault}
 use Rattle.fl_lines.specs.declared.lines.LinesFault.TheVariants.{Failed, Long}
 use Rattle.fl_session.specs.declared.status.Status.{Status}
@@ -303,6 +303,11 @@ pub finish-begins : (r : Result Begun Status) (first : Option code.Command) (num
 finish-begins (Ok b) first number P Q now state left h f =
     subst (λ (x : Begun). (knots : ℕ) (text : List ℕ) → Q knots text → BeginsAt knots text now x.first x.number state left) (sym h.0) f
 finish-begins (Err e) first number P Q now state left h f = tt
+
+pub finish-holds : (r : Result Begun Status) (first : Option code.Command) (number : ℕ) (P : Type 0) (room : List ℕ) (state : LinesState) →
+    IfOk r (λ b. (b ≡ record { first = first; number = number }) × P) → HoldsFirst first number room state → IfOk r (λ b. HoldsFirst b.first b.number room state)
+finish-holds (Ok b) first number P room state h holds = subst (λ (x : Begun). HoldsFirst x.first x.number room state) (sym h.0) holds
+finish-holds (Err e) first number P room state h holds = tt
 
 pub finish-ends : (r : Result Begun Status) (N : Type 0) (Q : ℕ → List ℕ → Type 0) (left : Option (List ℕ)) →
     IfErr r (λ status. (status ≡ BadConfiguration 0) × N) → (N → (knots : ℕ) (text : List ℕ) → Q knots text → (start_in knots text ≡ BadConfig 0) × TakesBegin knots text left) →

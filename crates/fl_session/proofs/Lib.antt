@@ -2,6 +2,7 @@ pub mod NextCommand
 pub mod AcceptedLines
 pub mod Nexts
 pub mod Loops
+pub mod FailedReads
 pub mod ConfigSteps
 pub mod ConfigLines
 pub mod Ready

@@ -12,3 +12,30 @@ pub returns-then-is_none-clause-complete : goal.returns-then-is_none-clause-comp
 returns-then-is_none-clause-complete g c =
     let none : image_named (map (λ word. string_bytes word) c.args.words.now) ≡ None = search rules in
     λ text config commands told l place named own s k m. absurd (named none)
+
+pub returns-clause-run : goal.returns-clause-run
+returns-clause-run g c = c.run_script.ensures.ends
+
+pub returns-clause-script : goal.returns-clause-script
+returns-clause-script g c = c.run_script.ensures.script
+
+pub returns-clause-causes : goal.returns-clause-causes
+returns-clause-causes g c = c.run_script.ensures.causes
+
+pub returns-clause-read : goal.returns-clause-read
+returns-clause-read g c = c.run_script.ensures.read
+
+pub returns-clause-write : goal.returns-clause-write
+returns-clause-write g c = c.run_script.ensures.write
+
+pub returns-clause-make : goal.returns-clause-make
+returns-clause-make g c = c.run_script.ensures.make
+
+pub returns-clause-early : goal.returns-clause-early
+returns-clause-early g c = c.run_script.ensures.early
+
+pub returns-clause-goes : goal.returns-clause-goes
+returns-clause-goes g c = c.run_script.ensures.goes
+
+pub returns-clause-later : goal.returns-clause-later
+returns-clause-later g c = c.run_script.ensures.later
