@@ -77,6 +77,16 @@ completes knots text told flushed NotImage short is input read write make h =
 pub completes-none : (knots : ℕ) (text : List ℕ) (told : Told) (flushed : Flushed) (status : ShellStatus) → status ≡ NoMemory → ShellEnds knots text told flushed status → Completes knots text told flushed status
 completes-none knots text told flushed status is h = subst (λ s. ShellEnds knots text told flushed s → Completes knots text told flushed s) (sym is) (λ ends. ends) h
 
+-- .. of want of memory
+pub memory-read : (status : ShellStatus) → status ≡ NoMemory → status ≡ InputRead → ⊥
+memory-read status is e = subst IsOfSession is (subst IsOfSession (sym e) tt)
+
+pub memory-write : (status : ShellStatus) → status ≡ NoMemory → status ≡ OutWrite → ⊥
+memory-write status is e = subst IsOfSession is (subst IsOfSession (sym e) tt)
+
+pub memory-make : (status : ShellStatus) → status ≡ NoMemory → status ≡ MediaMake → ⊥
+memory-make status is e = let odd : NoMemory ≡ MediaMake = sym is ∙ e in cc
+
 -- a count that rose after others did
 pub rose-after : (before mid now : ℕ) → before ≤ mid → Rose mid now → Rose before now
 rose-after before mid now later rose =

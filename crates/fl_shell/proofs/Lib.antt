@@ -25,3 +25,4 @@ pub mod DescribedImage
 pub mod Header
 pub mod InputEnds
 pub mod CompleteEnds
+mod FailedReads

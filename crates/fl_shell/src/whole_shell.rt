@@ -1,9 +1,11 @@
 // A shell over an image.
-ghost use Rattle.std.specs.Prelude.{◌≡◌, ℕ, ◌+◌, ◌^◌, ◌≤◌, true, Some, List, [], length, IsTrue, sum_by};
+ghost use Rattle.std.specs.Prelude.{◌≡◌, ℕ, ◌+◌, ◌^◌, ◌≤◌, true, Some, Ok, Option, List, [], length, IsTrue, sum_by};
 ghost use Rattle.fl_base.specs.Causes.{Rose};
 ghost use Rattle.fl_base.specs.declared.types.Geometry.{Geometry};
 ghost use Rattle.fl_config.specs.Whole.{is_whole};
+ghost use Rattle.fl_flash.specs.Media.{MediaState};
 ghost use Rattle.fl_flash.specs.Places.{extent};
+ghost use Rattle.fl_image.specs.Image.{OnlyLooksAt};
 ghost use Rattle.fl_machine.specs.Machine.{Machine};
 ghost use Rattle.fl_machine.specs.Script.{StandsAfter};
 ghost use Rattle.fl_model.specs.Record.{Config as Configuration, blocks_of};
@@ -19,6 +21,7 @@ ghost use Rattle.fl_shell.specs.Causes.{SessionEnds, ShellCaused};
 ghost use Rattle.fl_shell.specs.Complete.{Completes, IsConfigured};
 ghost use Rattle.fl_shell.specs.Ends.{IsEarlyBy, ShellEnds};
 ghost use Rattle.fl_shell.specs.Input.{InputEnds};
+ghost use Rattle.fl_shell.specs.Leading.{BeginsAs, LeavesOn};
 ghost use Rattle.fl_shell.specs.Reading.{IsGivenAs, IsLeft, rest_in};
 ghost use Rattle.fl_shell.specs.Statuses.{IsOfSession, opening_status};
 ghost use Rattle.fl_shell.specs.Talking.{MediumEnds, lines_from};
@@ -85,6 +88,44 @@ fn talk_over<M: Media, S: Source, K: Sink>(
     end
 }
 
+/// Opens the image of a configuration that was made or found, and answers the lines of an input behind it.
+fn shell_begun<M: Media, S: Source, K: Sink>(
+    alloc: Global,
+    media: &mut M,
+    begun: &Begun,
+    lines: &mut Lines,
+    room: &mut LineRoom,
+    input: &mut S,
+    out: &mut K,
+) -> ShellEnd
+    requires whole { IsTrue (is_whole begun.now.config) }
+    // Before, a medium was only looked at, and what was told then was answered to the lines of the configuration.
+    ensures ends { (text : List ℕ) (before : MediaState) (told : Option (List ℕ)) → IsTrue before.tells → OnlyLooksAt before (M.state media.old) →
+        ((begun.now.next ≡ Next.Ended → ⊥) → lines.old.most ≤ 2 ^ 44) → BeginsAs before.content (lines_of text) (length text) (Ok begun.now) lines.old (S.left input.old) told (K.written out.old) →
+        ShellEnds KNOTS text (told_of before (M.state media.new) (S.left input.new) told (K.written out.new)) result.flushed result.status }
+    ensures causes { (text : List ℕ) (before : MediaState) (told : Option (List ℕ)) → IsTrue before.tells → OnlyLooksAt before (M.state media.old) →
+        BeginsAs before.content (lines_of text) (length text) (Ok begun.now) lines.old (S.left input.old) told (K.written out.old) →
+        ShellCaused KNOTS text before (M.state media.new) (S.left input.new) told (K.written out.new) result.flushed result.status }
+    ensures input { (total : ℕ) → LeavesOn begun.now total lines.old (S.left input.old) → InputEnds total (S.left input.new) result.status }
+    ensures early { (before : MediaState) → OnlyLooksAt before (M.state media.old) → IsEarlyBy before (M.state media.new) result.status }
+    ensures read { result.status ≡ ShellStatus.InputRead → Rose (S.faults input.old) (S.faults input.new) }
+    ensures write { result.status ≡ ShellStatus.OutWrite → Rose (K.faults out.old) (K.faults out.new) }
+    ensures make { result.status ≡ ShellStatus.MediaMake → Rose (M.state media.old).faults (M.state media.new).faults }
+    ensures goes { MediaGoes (M.state media.old) (M.state media.new) }
+    ensures later { (S.faults input.old ≤ S.faults input.new) × (K.faults out.old ≤ K.faults out.new) }
+{
+    let Ok(rooms) = Rooms::new(alloc, &begun.config) else {
+        return ShellEnd::of(ShellStatus::NoMemory);
+    };
+    let is_new = media.len() == 0;
+    match begun.config.open_image(media) {
+        Ok(()) => talk_over(
+            alloc, media, begun, is_new, rooms, lines, room, input, out,
+        ),
+        Err(refusal) => ShellEnd::of(status_of(refusal)),
+    }
+}
+
 /// Answers the lines of an input over the image on a medium, and flushes what is pending at their end. An empty medium becomes an
 /// image of the configuration that the leading lines make.
 pub fn shell<M: Media, S: Source, K: Sink>(
@@ -132,14 +173,5 @@ pub fn shell<M: Media, S: Source, K: Sink>(
         Ok(begun) => begun,
         Err(status) => return ShellEnd::of(status),
     };
-    let Ok(rooms) = Rooms::new(alloc, &begun.config) else {
-        return ShellEnd::of(ShellStatus::NoMemory);
-    };
-    let is_new = media.len() == 0;
-    match begun.config.open_image(media) {
-        Ok(()) => talk_over(
-            alloc, media, &begun, is_new, rooms, &mut lines, &mut room, input, out,
-        ),
-        Err(refusal) => ShellEnd::of(status_of(refusal)),
-    }
+    shell_begun(alloc, media, &begun, &mut lines, &mut room, input, out)
 }
