@@ -18,3 +18,4 @@ pub mod Rows
 pub mod Mounting
 pub mod MountingApart
 pub mod Left
+pub mod Replays

@@ -271,18 +271,18 @@ pub returns-in-Err-clause-calm : goal.returns-in-Err-clause-calm
 returns-in-Err-clause-calm g c = c.unmount.ensures.forgotten.calm
 
 pub returns-in-Err-clause-goes : goal.returns-in-Err-clause-goes
-returns-in-Err-clause-goes g c = goes-then (g.F.Flash.state c.args.flash.now) (g.F.Flash.state c.mount.new.flash) (g.F.Flash.state c.replay.new.flash) c.in_ok-mounted.ensures.flash.goes c.in-Err.ensures.goes
+returns-in-Err-clause-goes g c = goes-then (g.F.Flash.state c.args.flash.now) (g.F.Flash.state c.mount.new.flash) (g.F.Flash.state c.replay.new.flash) c.in_ok-mounted.ensures.flash.goes c.in-Err.ensures.flash.goes
 
 pub returns-in-Err-clause-same : goal.returns-in-Err-clause-same
 returns-in-Err-clause-same g c = record {
-  table = same-then c.args.self.now.table c.mount.new.self c.unmount.new.self c.in_ok-mounted.ensures.memory.same (same-then c.mount.new.self c.replay.new.table c.unmount.new.self c.in-Err.ensures.table_same c.unmount.ensures.same);
-  log = subst (λ (o : Option RecordLog). AreSameLog o (Some c.replay.new.log)) (sym c.in-Some.is) c.in-Err.ensures.same;
+  table = same-then c.args.self.now.table c.mount.new.self c.unmount.new.self c.in_ok-mounted.ensures.memory.same (same-then c.mount.new.self c.replay.new.table c.unmount.new.self c.in-Err.ensures.keeps.table_same c.unmount.ensures.same);
+  log = subst (λ (o : Option RecordLog). AreSameLog o (Some c.replay.new.log)) (sym c.in-Some.is) c.in-Err.ensures.keeps.same;
 }
 
 pub returns-in-Err-clause-lies : goal.returns-in-Err-clause-lies
 returns-in-Err-clause-lies g c = record {
-  table = c.unmount.ensures.lies (g.F.Flash.state c.replay.new.flash) c.in-Err.ensures.table_lies;
-  log = log-here c.replay.new.log (g.F.Flash.state c.replay.new.flash) c.in-Err.ensures.lies;
+  table = c.unmount.ensures.lies (g.F.Flash.state c.replay.new.flash) c.in-Err.ensures.keeps.table_lies;
+  log = log-here c.replay.new.log (g.F.Flash.state c.replay.new.flash) c.in-Err.ensures.keeps.lies;
 }
 
 pub returns-in-Err-clause-alone : goal.returns-in-Err-clause-alone
@@ -300,7 +300,7 @@ returns-in-Err-clause-apart g c = λ first plan table rose device l watched plan
     let k = c.in_ok-mounted.ensures in
     let here : c.in-Some.log ≡ l = same_Some _ _ (sym c.in-Some.is ∙ is) in
     let outside = k.flash.outside watched.told in
-    let w = k.mount.ends first (bare plan) (bare_table table) rose device (watched-first old f1 f2 rose device watched c.in-Err.ensures.goes) planned.table (apart-mountable t old first plan table planned l apart) in
+    let w = k.mount.ends first (bare plan) (bare_table table) rose device (watched-first old f1 f2 rose device watched c.in-Err.ensures.flash.goes) planned.table (apart-mountable t old first plan table planned l apart) in
     replay-ends t old first plan table planned l apart rose device c.in_ok-mounted.mounted c.mount.new.self f1 outside w k.memory.none c.in-Err.fault c.replay.new.log c.replay.new.table _ f2
     (subst (λ (x : RecordLog). ReplayEnds first plan (beside (log_of table) w.now.state) rose w.now.device x (Err c.in-Err.fault) c.replay.new.log c.replay.new.table f2) here
     (c.in-Err.ensures.ends first plan (beside (log_of table) w.now.state) rose w.now.device (watched-then old f1 f2 rose device w.now.device watched k.flash.goes w.power w.counts)
@@ -319,7 +319,7 @@ returns-in-Err-clause-ends g c = λ first plan table rose device watched planned
     let k = c.in_ok-mounted.ensures in
     let apart = apart-of t old first plan table planned rests l is in
     let outside = k.flash.outside watched.told in
-    let w = k.mount.ends first (bare plan) (bare_table table) rose device (watched-first old f1 f2 rose device watched c.in-Err.ensures.goes) planned.table (apart-mountable t old first plan table planned l apart) in
+    let w = k.mount.ends first (bare plan) (bare_table table) rose device (watched-first old f1 f2 rose device watched c.in-Err.ensures.flash.goes) planned.table (apart-mountable t old first plan table planned l apart) in
     badly-of t old first plan table planned rests l is rose device c.in-Err.fault _ f2
     (replay-ends t old first plan table planned l apart rose device c.in_ok-mounted.mounted c.mount.new.self f1 outside w k.memory.none c.in-Err.fault c.replay.new.log c.replay.new.table _ f2
     (c.in-Err.ensures.ends first plan (beside (log_of table) w.now.state) rose w.now.device (watched-then old f1 f2 rose device w.now.device watched k.flash.goes w.power w.counts)
@@ -330,24 +330,24 @@ pub returns-in-Err-clause-refused : goal.returns-in-Err-clause-refused
 returns-in-Err-clause-refused g c = λ told.
     let k = c.in_ok-mounted.ensures in
     refuses-behind c.args.self.now (g.F.Flash.state c.args.flash.now) c.in-Some.log c.in-Some.is c.in_ok-mounted.mounted c.mount.new.self (g.F.Flash.state c.mount.new.flash) (k.pages.found told) k.memory.same c.in-Err.fault (g.F.Flash.state c.replay.new.flash)
-    (c.in-Err.ensures.refused (subst IsTrue (sym k.flash.goes.tells) told))
+    (c.in-Err.ensures.fails.refused (subst IsTrue (sym k.flash.goes.tells) told))
 
 pub returns-in-Err-clause-outside : goal.returns-in-Err-clause-outside
 returns-in-Err-clause-outside g c = λ told.
     let k = c.in_ok-mounted.ensures in
     outside-both c.args.self.now (g.F.Flash.state c.args.flash.now) c.in-Some.log c.in-Some.is c.mount.new.self (page_at (g.F.Flash.state c.mount.new.flash)) (page_at (g.F.Flash.state c.replay.new.flash)) k.memory.same (k.flash.outside told)
-    (c.in-Err.ensures.outside (subst IsTrue (sym k.flash.goes.tells) told))
+    (c.in-Err.ensures.flash.outside (subst IsTrue (sym k.flash.goes.tells) told))
 
 pub returns-in-Err-clause-cause : goal.returns-in-Err-clause-cause
 returns-in-Err-clause-cause g c =
     let t = c.args.self.now in
     let k = c.in_ok-mounted.ensures in
-    mount-cause-later (g.F.Flash.state c.args.flash.now) (g.F.Flash.state c.mount.new.flash) (g.F.Flash.state c.replay.new.flash) k.flash.goes k.flash.power c.in-Err.fault c.in-Err.ensures.cause
+    mount-cause-later (g.F.Flash.state c.args.flash.now) (g.F.Flash.state c.mount.new.flash) (g.F.Flash.state c.replay.new.flash) k.flash.goes k.flash.power c.in-Err.fault c.in-Err.ensures.fails.cause
 
 pub returns-in-Err-clause-reads : goal.returns-in-Err-clause-reads
 returns-in-Err-clause-reads g c = λ told.
     let k = c.in_ok-mounted.ensures in
-    few-both c.args.self.now (g.F.Flash.state c.args.flash.now) c.in-Some.log c.in-Some.is (g.F.Flash.state c.mount.new.flash) (g.F.Flash.state c.replay.new.flash) (k.flash.reads told) c.in-Err.ensures.reads
+    few-both c.args.self.now (g.F.Flash.state c.args.flash.now) c.in-Some.log c.in-Some.is (g.F.Flash.state c.mount.new.flash) (g.F.Flash.state c.replay.new.flash) (k.flash.reads told) c.in-Err.ensures.flash.reads
 
 pub returns-in-Err-clause-limit : goal.returns-in-Err-clause-limit
 returns-in-Err-clause-limit g c = λ first plan table rose device watched planned rests full.
@@ -358,19 +358,19 @@ returns-in-Err-clause-limit g c = λ first plan table rose device watched planne
     let k = c.in_ok-mounted.ensures in
     let apart = apart-of t old first plan table planned rests c.in-Some.log c.in-Some.is in
     limit-behind plan table old.work.reads f1.work.reads f2.work.reads
-    (k.mount.limit first (bare plan) (bare_table table) rose device (watched-first old f1 f2 rose device watched c.in-Err.ensures.goes) planned.table (bare-mountable t old first plan table planned rests) full)
+    (k.mount.limit first (bare plan) (bare_table table) rose device (watched-first old f1 f2 rose device watched c.in-Err.ensures.flash.goes) planned.table (bare-mountable t old first plan table planned rests) full)
     (c.in-Err.ensures.limit (first + blocks_of (bare plan)) plan table (subst IsTrue (sym k.flash.goes.tells) watched.told) (log-stays t old first plan table planned c.in-Some.log apart f1 (k.flash.outside watched.told)))
 
 pub returns-in-Err-clause-repairs : goal.returns-in-Err-clause-repairs
 returns-in-Err-clause-repairs g c =
     repairs-both c.args.self.now c.mount.new.self (g.F.Flash.state c.args.flash.now) (g.F.Flash.state c.mount.new.flash) (g.F.Flash.state c.replay.new.flash) (ap {B = Bool} (λ (o : Option RecordLog). is_some o) c.in-Some.is)
-    c.in_ok-mounted.ensures.memory.same c.in_ok-mounted.ensures.flash.repairs c.in-Err.ensures.repairs
+    c.in_ok-mounted.ensures.memory.same c.in_ok-mounted.ensures.flash.repairs c.in-Err.ensures.flash.repairs
 
 pub returns-in-Err-clause-room : goal.returns-in-Err-clause-room
-returns-in-Err-clause-room g c = c.in-Err.ensures.room ∙ c.in_ok-mounted.ensures.buffer.room
+returns-in-Err-clause-room g c = c.in-Err.ensures.buffer.room ∙ c.in_ok-mounted.ensures.buffer.room
 
 pub returns-in-Err-clause-holds : goal.returns-in-Err-clause-holds
-returns-in-Err-clause-holds g c = c.in-Err.ensures.holds
+returns-in-Err-clause-holds g c = c.in-Err.ensures.buffer.holds
 
 pub returns-in-Err-clause-empty : goal.returns-in-Err-clause-empty
 returns-in-Err-clause-empty g c = tt
@@ -393,18 +393,18 @@ returns-in-Err-clause-off g c = λ down. absurd (not-lost c.in_ok-mounted.mounte
 -- ---- all is mounted
 
 pub returns-clause-goes : goal.returns-clause-goes
-returns-clause-goes g c = goes-then (g.F.Flash.state c.args.flash.now) (g.F.Flash.state c.mount.new.flash) (g.F.Flash.state c.replay.new.flash) c.in_ok-mounted.ensures.flash.goes c.in_default-replay.ensures.goes
+returns-clause-goes g c = goes-then (g.F.Flash.state c.args.flash.now) (g.F.Flash.state c.mount.new.flash) (g.F.Flash.state c.replay.new.flash) c.in_ok-mounted.ensures.flash.goes c.in_default-replay.ensures.flash.goes
 
 pub returns-clause-same : goal.returns-clause-same
 returns-clause-same g c = record {
-  table = same-then c.args.self.now.table c.mount.new.self c.replay.new.table c.in_ok-mounted.ensures.memory.same c.in_default-replay.ensures.table_same;
-  log = subst (λ (o : Option RecordLog). AreSameLog o (Some c.replay.new.log)) (sym c.in-Some.is) c.in_default-replay.ensures.same;
+  table = same-then c.args.self.now.table c.mount.new.self c.replay.new.table c.in_ok-mounted.ensures.memory.same c.in_default-replay.ensures.keeps.table_same;
+  log = subst (λ (o : Option RecordLog). AreSameLog o (Some c.replay.new.log)) (sym c.in-Some.is) c.in_default-replay.ensures.keeps.same;
 }
 
 pub returns-clause-lies : goal.returns-clause-lies
 returns-clause-lies g c = record {
-  table = c.in_default-replay.ensures.table_lies;
-  log = log-here c.replay.new.log (g.F.Flash.state c.replay.new.flash) c.in_default-replay.ensures.lies;
+  table = c.in_default-replay.ensures.keeps.table_lies;
+  log = log-here c.replay.new.log (g.F.Flash.state c.replay.new.flash) c.in_default-replay.ensures.keeps.lies;
 }
 
 pub returns-clause-alone : goal.returns-clause-alone
@@ -425,11 +425,11 @@ returns-clause-apart g c = λ first plan table rose device l watched planned is 
     let k = c.in_ok-mounted.ensures in
     let here : c.in-Some.log ≡ l = same_Some _ _ (sym c.in-Some.is ∙ is) in
     let outside = k.flash.outside watched.told in
-    let w = k.mount.ends first (bare plan) (bare_table table) rose device (watched-first old f1 f2 rose device watched c.in_default-replay.ensures.goes) planned.table (apart-mountable t old first plan table planned l apart) in (
+    let w = k.mount.ends first (bare plan) (bare_table table) rose device (watched-first old f1 f2 rose device watched c.in_default-replay.ensures.flash.goes) planned.table (apart-mountable t old first plan table planned l apart) in (
       c.replay.new.log,
       (
         refl,
-        replayed t old first plan table planned l apart rose device c.in_ok-mounted.mounted c.mount.new.self f1 outside w k.memory.none c.replay.new.log _ f2 c.held.result refl (c.in_default-replay.ensures.empty (row_layout plan)) (c.held.ensures.stands f2 first (bare plan))
+        replayed t old first plan table planned l apart rose device c.in_ok-mounted.mounted c.mount.new.self f1 outside w k.memory.none c.replay.new.log _ f2 c.held.result refl (c.in_default-replay.ensures.keeps.empty (row_layout plan)) (c.held.ensures.stands f2 first (bare plan))
             (c.in_default-replay.ensures.ends first plan (beside (log_of table) w.now.state) rose w.now.device (watched-then old f1 f2 rose device w.now.device watched k.flash.goes w.power w.counts)
             (between-stands t old first plan table planned l apart rose device c.in_ok-mounted.mounted c.mount.new.self f1 outside w k.memory.none) (between-none t old first plan table planned l apart rose device c.in_ok-mounted.mounted c.mount.new.self f1 outside w k.memory.none)
             (subst (λ (x : RecordLog). Rests x f1 (first + blocks_of (bare plan)) plan (beside (log_of table) w.now.state)) (sym here)
@@ -448,8 +448,8 @@ returns-clause-ends g c = λ first plan table rose device watched planned rests.
     let k = c.in_ok-mounted.ensures in
     let apart = apart-of t old first plan table planned rests l is in
     let outside = k.flash.outside watched.told in
-    let w = k.mount.ends first (bare plan) (bare_table table) rose device (watched-first old f1 f2 rose device watched c.in_default-replay.ensures.goes) planned.table (apart-mountable t old first plan table planned l apart) in
-    let empty = c.in_default-replay.ensures.empty (row_layout plan) in
+    let w = k.mount.ends first (bare plan) (bare_table table) rose device (watched-first old f1 f2 rose device watched c.in_default-replay.ensures.flash.goes) planned.table (apart-mountable t old first plan table planned l apart) in
+    let empty = c.in_default-replay.ensures.keeps.empty (row_layout plan) in
     well-of t old first plan table planned rests l is rose device c.replay.new.log _ f2 c.held.result refl empty
     (replayed t old first plan table planned l apart rose device c.in_ok-mounted.mounted c.mount.new.self f1 outside w k.memory.none c.replay.new.log _ f2 c.held.result refl empty (c.held.ensures.stands f2 first (bare plan))
     (c.in_default-replay.ensures.ends first plan (beside (log_of table) w.now.state) rose w.now.device (watched-then old f1 f2 rose device w.now.device watched k.flash.goes w.power w.counts)
@@ -457,13 +457,13 @@ returns-clause-ends g c = λ first plan table rose device watched planned rests.
     (between-rests t old first plan table planned l apart rose device c.in_ok-mounted.mounted c.mount.new.self f1 outside w k.memory.none)))
 
 pub returns-clause-empty : goal.returns-clause-empty
-returns-clause-empty g c = record { table = c.in_default-replay.ensures.table_empty; log = c.in_default-replay.ensures.empty }
+returns-clause-empty g c = record { table = c.in_default-replay.ensures.finds.table_empty; log = c.in_default-replay.ensures.keeps.empty }
 
 pub returns-clause-found : goal.returns-clause-found
 returns-clause-found g c = λ told.
     let k = c.in_ok-mounted.ensures in
     finds-behind c.args.self.now (g.F.Flash.state c.args.flash.now) c.in-Some.log c.in-Some.is c.in_ok-mounted.mounted c.mount.new.self (g.F.Flash.state c.mount.new.flash) (k.pages.found told) k.memory.same c.held.result _ c.replay.new.log
-    (g.F.Flash.state c.replay.new.flash) refl (c.in_default-replay.ensures.found (subst IsTrue (sym k.flash.goes.tells) told)) c.held.ensures.exact
+    (g.F.Flash.state c.replay.new.flash) refl (c.in_default-replay.ensures.finds.found (subst IsTrue (sym k.flash.goes.tells) told)) c.held.ensures.exact
 
 pub returns-clause-leaves : goal.returns-clause-leaves
 returns-clause-leaves g c = λ told first plan table seen planned rests. by-seen first plan table seen planned rests
@@ -484,8 +484,8 @@ returns-clause-leaves g c = λ told first plan table seen planned rests. by-seen
         let k = c.in_ok-mounted.ensures in
         let apart = apart-of t old first plan table planned rests l is in
         let outside = k.flash.outside watched.told in
-        let w = k.mount.ends first (bare plan) (bare_table table) rose device (watched-first old f1 f2 rose device watched c.in_default-replay.ensures.goes) planned.table (apart-mountable t old first plan table planned l apart) in
-        let leaves = c.in_default-replay.ensures.leaves first plan (beside (log_of table) w.now.state) rose w.now.device (watched-then old f1 f2 rose device w.now.device watched k.flash.goes w.power w.counts)
+        let w = k.mount.ends first (bare plan) (bare_table table) rose device (watched-first old f1 f2 rose device watched c.in_default-replay.ensures.flash.goes) planned.table (apart-mountable t old first plan table planned l apart) in
+        let leaves = c.in_default-replay.ensures.finds.leaves first plan (beside (log_of table) w.now.state) rose w.now.device (watched-then old f1 f2 rose device w.now.device watched k.flash.goes w.power w.counts)
         (between-stands t old first plan table planned l apart rose device c.in_ok-mounted.mounted c.mount.new.self f1 outside w k.memory.none) (between-none t old first plan table planned l apart rose device c.in_ok-mounted.mounted c.mount.new.self f1 outside w k.memory.none)
         (between-rests t old first plan table planned l apart rose device c.in_ok-mounted.mounted c.mount.new.self f1 outside w k.memory.none) in
         mount-leaves t.table old f1 first plan planned.table watched.told (c.requires.lies.table.geometry ∙ sym planned.table.geometry) c.in_ok-mounted.mounted c.mount.new.self (k.pages.found watched.told)
@@ -496,12 +496,12 @@ pub returns-clause-outside : goal.returns-clause-outside
 returns-clause-outside g c = λ told.
     let k = c.in_ok-mounted.ensures in
     outside-both c.args.self.now (g.F.Flash.state c.args.flash.now) c.in-Some.log c.in-Some.is c.mount.new.self (page_at (g.F.Flash.state c.mount.new.flash)) (page_at (g.F.Flash.state c.replay.new.flash)) k.memory.same (k.flash.outside told)
-    (c.in_default-replay.ensures.outside (subst IsTrue (sym k.flash.goes.tells) told))
+    (c.in_default-replay.ensures.flash.outside (subst IsTrue (sym k.flash.goes.tells) told))
 
 pub returns-clause-reads : goal.returns-clause-reads
 returns-clause-reads g c = λ told.
     let k = c.in_ok-mounted.ensures in
-    few-both c.args.self.now (g.F.Flash.state c.args.flash.now) c.in-Some.log c.in-Some.is (g.F.Flash.state c.mount.new.flash) (g.F.Flash.state c.replay.new.flash) (k.flash.reads told) c.in_default-replay.ensures.reads
+    few-both c.args.self.now (g.F.Flash.state c.args.flash.now) c.in-Some.log c.in-Some.is (g.F.Flash.state c.mount.new.flash) (g.F.Flash.state c.replay.new.flash) (k.flash.reads told) c.in_default-replay.ensures.flash.reads
 
 pub returns-clause-limit : goal.returns-clause-limit
 returns-clause-limit g c = λ first plan table rose device watched planned rests full.
@@ -512,28 +512,28 @@ returns-clause-limit g c = λ first plan table rose device watched planned rests
     let k = c.in_ok-mounted.ensures in
     let apart = apart-of t old first plan table planned rests c.in-Some.log c.in-Some.is in
     limit-behind plan table old.work.reads f1.work.reads f2.work.reads
-    (k.mount.limit first (bare plan) (bare_table table) rose device (watched-first old f1 f2 rose device watched c.in_default-replay.ensures.goes) planned.table (bare-mountable t old first plan table planned rests) full)
+    (k.mount.limit first (bare plan) (bare_table table) rose device (watched-first old f1 f2 rose device watched c.in_default-replay.ensures.flash.goes) planned.table (bare-mountable t old first plan table planned rests) full)
     (c.in_default-replay.ensures.limit (first + blocks_of (bare plan)) plan table (subst IsTrue (sym k.flash.goes.tells) watched.told) (log-stays t old first plan table planned c.in-Some.log apart f1 (k.flash.outside watched.told)))
 
 pub returns-clause-repairs : goal.returns-clause-repairs
 returns-clause-repairs g c =
     repairs-both c.args.self.now c.mount.new.self (g.F.Flash.state c.args.flash.now) (g.F.Flash.state c.mount.new.flash) (g.F.Flash.state c.replay.new.flash) (ap {B = Bool} (λ (o : Option RecordLog). is_some o) c.in-Some.is)
-    c.in_ok-mounted.ensures.memory.same c.in_ok-mounted.ensures.flash.repairs c.in_default-replay.ensures.repairs
+    c.in_ok-mounted.ensures.memory.same c.in_ok-mounted.ensures.flash.repairs c.in_default-replay.ensures.flash.repairs
 
 pub returns-clause-power : goal.returns-clause-power
-returns-clause-power g c = λ on. c.in_default-replay.ensures.power
+returns-clause-power g c = λ on. c.in_default-replay.ensures.finds.power
 
 pub returns-clause-room : goal.returns-clause-room
-returns-clause-room g c = c.in_default-replay.ensures.room ∙ c.in_ok-mounted.ensures.buffer.room
+returns-clause-room g c = c.in_default-replay.ensures.buffer.room ∙ c.in_ok-mounted.ensures.buffer.room
 
 pub returns-clause-holds : goal.returns-clause-holds
-returns-clause-holds g c = c.in_default-replay.ensures.holds
+returns-clause-holds g c = c.in_default-replay.ensures.buffer.holds
 
 pub returns-clause-mounted : goal.returns-clause-mounted
-returns-clause-mounted g c = c.in_default-replay.ensures.running
+returns-clause-mounted g c = c.in_default-replay.ensures.finds.running
 
 pub returns-clause-calm : goal.returns-clause-calm
-returns-clause-calm g c = c.in_default-replay.ensures.calm ∙ c.in_ok-mounted.ensures.memory.calm
+returns-clause-calm g c = c.in_default-replay.ensures.finds.calm ∙ c.in_ok-mounted.ensures.memory.calm
 
 pub returns-clause-refused : goal.returns-clause-refused
 returns-clause-refused g c = tt
@@ -573,26 +573,26 @@ pub invariant_of-self-in-Err : goal.invariant_of-self-in-Err
 invariant_of-self-in-Err g c =
     record {
       running = λ l is up. absurd (true≢false (sym up ∙ ap (λ (o : Option Ring). is_some o) c.unmount.ensures.forgotten.down));
-      no_blobs = λ some. blobs-same c.replay.new.table c.unmount.new.self c.unmount.ensures.same ∙ (blobs-same c.mount.new.self c.replay.new.table c.in-Err.ensures.table_same ∙ (blobs-same c.args.self.now.table c.mount.new.self c.in_ok-mounted.ensures.memory.same ∙ c.args.self.now.no_blobs (ap {B = Bool} (λ (o : Option RecordLog). is_some o) c.in-Some.is)));
+      no_blobs = λ some. blobs-same c.replay.new.table c.unmount.new.self c.unmount.ensures.same ∙ (blobs-same c.mount.new.self c.replay.new.table c.in-Err.ensures.keeps.table_same ∙ (blobs-same c.args.self.now.table c.mount.new.self c.in_ok-mounted.ensures.memory.same ∙ c.args.self.now.no_blobs (ap {B = Bool} (λ (o : Option RecordLog). is_some o) c.in-Some.is)));
       room = room-same c.args.self.now.table c.unmount.new.self c.args.self.now.log (Some c.replay.new.log)
-          (same-then c.args.self.now.table c.mount.new.self c.unmount.new.self c.in_ok-mounted.ensures.memory.same (same-then c.mount.new.self c.replay.new.table c.unmount.new.self c.in-Err.ensures.table_same c.unmount.ensures.same))
-          (subst (λ (o : Option RecordLog). AreSameLog o (Some c.replay.new.log)) (sym c.in-Some.is) c.in-Err.ensures.same) c.args.self.now.room;
+          (same-then c.args.self.now.table c.mount.new.self c.unmount.new.self c.in_ok-mounted.ensures.memory.same (same-then c.mount.new.self c.replay.new.table c.unmount.new.self c.in-Err.ensures.keeps.table_same c.unmount.ensures.same))
+          (subst (λ (o : Option RecordLog). AreSameLog o (Some c.replay.new.log)) (sym c.in-Some.is) c.in-Err.ensures.keeps.same) c.args.self.now.room;
     }
 
 pub invariant_of-self-in_default-replay : goal.invariant_of-self-in_default-replay
 invariant_of-self-in_default-replay g c =
     record {
-      running = λ l is up. subst (λ (x : RecordLog). is_mounted x ≡ true) (same_Some _ _ is) c.in_default-replay.ensures.mounted;
-      no_blobs = λ some. blobs-same c.mount.new.self c.replay.new.table c.in_default-replay.ensures.table_same ∙ (blobs-same c.args.self.now.table c.mount.new.self c.in_ok-mounted.ensures.memory.same ∙ c.args.self.now.no_blobs (ap {B = Bool} (λ (o : Option RecordLog). is_some o) c.in-Some.is));
-      room = room-same c.args.self.now.table c.replay.new.table c.args.self.now.log (Some c.replay.new.log) (same-then c.args.self.now.table c.mount.new.self c.replay.new.table c.in_ok-mounted.ensures.memory.same c.in_default-replay.ensures.table_same)
-          (subst (λ (o : Option RecordLog). AreSameLog o (Some c.replay.new.log)) (sym c.in-Some.is) c.in_default-replay.ensures.same) c.args.self.now.room;
+      running = λ l is up. subst (λ (x : RecordLog). is_mounted x ≡ true) (same_Some _ _ is) c.in_default-replay.ensures.finds.mounted;
+      no_blobs = λ some. blobs-same c.mount.new.self c.replay.new.table c.in_default-replay.ensures.keeps.table_same ∙ (blobs-same c.args.self.now.table c.mount.new.self c.in_ok-mounted.ensures.memory.same ∙ c.args.self.now.no_blobs (ap {B = Bool} (λ (o : Option RecordLog). is_some o) c.in-Some.is));
+      room = room-same c.args.self.now.table c.replay.new.table c.args.self.now.log (Some c.replay.new.log) (same-then c.args.self.now.table c.mount.new.self c.replay.new.table c.in_ok-mounted.ensures.memory.same c.in_default-replay.ensures.keeps.table_same)
+          (subst (λ (o : Option RecordLog). AreSameLog o (Some c.replay.new.log)) (sym c.in-Some.is) c.in_default-replay.ensures.keeps.same) c.args.self.now.room;
     }
 
 pub invariant_of-self-2 : goal.invariant_of-self-2
 invariant_of-self-2 g c =
     record {
-      running = λ l is up. subst (λ (x : RecordLog). is_mounted x ≡ true) (same_Some _ _ is) c.in_default-replay.ensures.mounted;
-      no_blobs = λ some. blobs-same c.mount.new.self c.replay.new.table c.in_default-replay.ensures.table_same ∙ (blobs-same c.args.self.now.table c.mount.new.self c.in_ok-mounted.ensures.memory.same ∙ c.args.self.now.no_blobs (ap {B = Bool} (λ (o : Option RecordLog). is_some o) c.in-Some.is));
-      room = room-same c.args.self.now.table c.replay.new.table c.args.self.now.log (Some c.replay.new.log) (same-then c.args.self.now.table c.mount.new.self c.replay.new.table c.in_ok-mounted.ensures.memory.same c.in_default-replay.ensures.table_same)
-          (subst (λ (o : Option RecordLog). AreSameLog o (Some c.replay.new.log)) (sym c.in-Some.is) c.in_default-replay.ensures.same) c.args.self.now.room;
+      running = λ l is up. subst (λ (x : RecordLog). is_mounted x ≡ true) (same_Some _ _ is) c.in_default-replay.ensures.finds.mounted;
+      no_blobs = λ some. blobs-same c.mount.new.self c.replay.new.table c.in_default-replay.ensures.keeps.table_same ∙ (blobs-same c.args.self.now.table c.mount.new.self c.in_ok-mounted.ensures.memory.same ∙ c.args.self.now.no_blobs (ap {B = Bool} (λ (o : Option RecordLog). is_some o) c.in-Some.is));
+      room = room-same c.args.self.now.table c.replay.new.table c.args.self.now.log (Some c.replay.new.log) (same-then c.args.self.now.table c.mount.new.self c.replay.new.table c.in_ok-mounted.ensures.memory.same c.in_default-replay.ensures.keeps.table_same)
+          (subst (λ (o : Option RecordLog). AreSameLog o (Some c.replay.new.log)) (sym c.in-Some.is) c.in_default-replay.ensures.keeps.same) c.args.self.now.room;
     }
