@@ -82,7 +82,7 @@ impl Display for Help {
         }
         f.write_str("FLASHTS_EXPLAIN=1\n")?;
         f.write_str(
-            "    in the environment, a job that fails says why and what to do below its line, as it does on a terminal\n",
+            "    in the environment, a job that fails says below its line what there is to say of why and what to do, as it does on a terminal\n",
         )?;
         f.write_str("    $ FLASHTS_EXPLAIN=1 flashts check sensor.img 2> told.text\n")
     }

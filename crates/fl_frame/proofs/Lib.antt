@@ -1,4 +1,5 @@
 pub mod CallsInTurn
 pub mod ContentsInTurn
 pub mod ReadsInTurn
+pub mod SingleReads
 pub mod WatchedInTurn

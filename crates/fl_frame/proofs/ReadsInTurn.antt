@@ -10,8 +10,12 @@ use Rattle.fl_frame.specs.Causes.{CausedBy, ReadFails}
 use Rattle.fl_frame.specs.Reads.{OnlyLooks, OnlyReads}
 use Rattle.fl_frame.proofs.CallsInTurn.{cut-later, goes-same, goes-then}
 
+-- nothing was read, of any number of reads
+pub none_read : (a : FlashState) (n : ℕ) → OnlyReads a n a
+none_read a n = record { goes = goes-same a; same = refl; armed = refl; power = refl; cuts = refl; reads = omega arith; media_reads = omega arith; programs = refl; erases = refl }
+
 pub no_reads : (a : FlashState) → OnlyReads a 0 a
-no_reads a = record { goes = goes-same a; same = refl; armed = refl; power = refl; cuts = refl; reads = omega arith; media_reads = omega arith; programs = refl; erases = refl }
+no_reads a = none_read a 0
 
 pub more_reads : (a b c : FlashState) (n m : ℕ) → OnlyReads a n b → OnlyReads b m c → OnlyReads a (n + m) c
 more_reads a b c n m x y = record {

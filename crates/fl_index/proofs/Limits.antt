@@ -6,7 +6,7 @@ use Rattle.fl_flash.specs.Buffer.{BufferState}
 use Rattle.fl_flash.specs.Flash.{FlashState, ReadsPage, page_at}
 use Rattle.fl_flash.specs.Media.{next_count}
 use Rattle.fl_flash.specs.declared.flash.FlashFault.{FlashFault}
-use Rattle.fl_ring.proofs.ReadsInTurn.{read_once}
+use Rattle.fl_frame.proofs.SingleReads.{read_once}
 
 -- none waits
 pub none-left : (first waiting : ℕ) → first + waiting < 2 ^ 32 → first + 0 < 2 ^ 32

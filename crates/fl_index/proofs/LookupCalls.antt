@@ -1,6 +1,6 @@
 -- What a lookup of an entry says of its calls, where it looks at no index page, and where it looks at one.
 use Rattle.std.proofs.Common.{◌≡◌, ℕ, ◌-◌, ◌<◌, ◌≤◌, Bool, ◌&&◌, cond, true, false, Option, Some, None, IfSome, Result, Ok, Err, IfErr, OnOk, refl, ◌∙◌, sym, ap, subst, arith}
-use Rattle.std.proofs.Math.Nat.{le_refl, le-add_right}
+use Rattle.std.proofs.Math.Nat.{le_refl}
 use Rattle.std.specs.Option.{option_map, unwrap_or}
 use Rattle.std.proofs.lemmas.Option.{none-some}
 use Rattle.fl_flash.specs.Buffer.{BufferState}
@@ -8,8 +8,6 @@ use Rattle.fl_flash.specs.Flash.{FlashState}
 use Rattle.fl_flash.specs.declared.flash.FlashFault.{FlashFault}
 use Rattle.fl_page.specs.declared.fault.ReadFault.{ReadFault}
 use Rattle.fl_page.specs.declared.fault.ReadFault.TheVariants.{Flash, BadPage}
-use Rattle.fl_frame.specs.Reads.{OnlyReads}
-use Rattle.fl_frame.proofs.ReadsInTurn.{no_reads}
 use Rattle.fl_ring.specs.Place.{next_of, oldest_of}
 use Rattle.fl_ring.specs.declared.ring.Ring.{Ring}
 use Rattle.fl_index.proofs.Held.{kept-held}
@@ -18,21 +16,6 @@ use Rattle.fl_index.specs.Looking.{looked_at, listing_by, entire, ByMemory, Hold
 use Rattle.fl_index.specs.Memory.{first_in, first_waiting, found_waiting, is_waiting, listing_from, listing_in, lists, per_page}
 use Rattle.fl_index.specs.Page.{page_number, IsGoodPage}
 use Rattle.fl_index.specs.declared.page.Found.{Found}
-
-pub unread-at-all : (f : FlashState) → OnlyReads f 1 f
-unread-at-all f =
-    let none = no_reads f in
-    record {
-      goes = none.goes;
-      same = refl;
-      armed = refl;
-      power = refl;
-      cuts = refl;
-      reads = le-add_right f.work.reads 1;
-      media_reads = le-add_right f.media.reads 1;
-      programs = refl;
-      erases = refl;
-    }
 
 -- the buffer has room for the bytes before the entries
 pub header-fits : (size page : ℕ) → size ≡ page → 64 ≤ page → 16 ≤ size

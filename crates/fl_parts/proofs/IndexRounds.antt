@@ -3,7 +3,7 @@ use Rattle.std.proofs.Common.{◌≡◌, ℕ, suc, true, cond, Option, Some, unw
 use Rattle.fl_find.specs.declared.index.KeyIndex.{KeyIndex}
 use Rattle.fl_flash.specs.Flash.{FlashState}
 use Rattle.fl_frame.specs.Reads.{OnlyReads}
-use Rattle.fl_frame.proofs.ReadsInTurn.{more_reads, told_still}
+use Rattle.fl_frame.proofs.ReadsInTurn.{more_reads, told_still, none_read}
 use Rattle.fl_index.specs.Memory.{form_in, is_running, next_in, oldest_in}
 use Rattle.fl_index.specs.declared.index.BitmapIndex.{BitmapIndex}
 use Rattle.fl_model.specs.Record.{RowLayout}
@@ -18,7 +18,7 @@ use Rattle.fl_parts.specs.Knowing.{KnowsWith}
 use Rattle.fl_parts.specs.declared.known.Known.{Known}
 use Rattle.fl_parts.proofs.IndexOfTable.{found-same, plan-same, still-lies, still-next, still-oldest}
 use Rattle.fl_parts.proofs.IndexTaken.{running-same}
-use Rattle.fl_parts.proofs.KeptParts.{reads-none, reads-then}
+use Rattle.fl_parts.proofs.KeptParts.{reads-then}
 use Rattle.fl_parts.proofs.ListedPages.{HasPassed, come-still, index-lies-read, knows-bare, listed-before, next-before, next-behind, no-page-lists, passed-page, seen-is}
 use Rattle.fl_parts.proofs.MountProgress.{rows-still, unlisted-rises}
 
@@ -190,7 +190,7 @@ kept-full entries read now ring old new full running left ring-left =
 
 -- .. and where they aren't, none is read
 pub kept-same : (bitmaps : Option BitmapIndex) (ring : Ring) (f : FlashState) → AreRunning bitmaps → LieOn bitmaps f → LeavesKept bitmaps ring f bitmaps f
-kept-same bitmaps ring f running lies = record { same = plan-same bitmaps; still = found-same bitmaps; running = running; lies = lies; reads = reads-none f _ }
+kept-same bitmaps ring f running lies = record { same = plan-same bitmaps; still = found-same bitmaps; running = running; lies = lies; reads = none_read f _ }
 
 pub bare-listed : {KNOTS SLOTS : ℕ} (error : ℕ) (t : Come) (reads : ℕ) (known : Known) (counts : List ℕ) (index : KeyIndex KNOTS SLOTS) (from : ℕ) → t.index_pages ≡ 0 → from ≡ t.oldest → KnowsWith error t 0 0 known counts index → KnowsListed error t from reads reads known counts index
 bare-listed error t reads known counts index from none is h = record {

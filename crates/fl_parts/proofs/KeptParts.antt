@@ -8,7 +8,7 @@ use Rattle.fl_find.specs.declared.index.KeyIndex.{KeyIndex}
 use Rattle.fl_flash.specs.Buffer.{BufferState}
 use Rattle.fl_flash.specs.Flash.{FlashState}
 use Rattle.fl_frame.specs.Reads.{OnlyReads}
-use Rattle.fl_frame.proofs.ReadsInTurn.{no_reads, more_reads}
+use Rattle.fl_frame.proofs.ReadsInTurn.{more_reads}
 use Rattle.fl_mark.specs.Mark.{state_of_page}
 use Rattle.fl_mark.specs.declared.page_state.PageState.{PageState}
 use Rattle.fl_mark.specs.declared.page_state.PageState.TheVariants.{Blank, Torn, Committed, Void}
@@ -20,6 +20,7 @@ use Rattle.fl_page.specs.Header.{page_bitmap, page_count}
 use Rattle.fl_page.specs.Page.{IsGoodPage, rows_from}
 use Rattle.fl_ring.specs.Place.{next_of, oldest_of}
 use Rattle.fl_ring.specs.declared.ring.Ring.{Ring}
+use Rattle.fl_ring.proofs.ReadsInTurn.{fewer_reads}
 use Rattle.fl_parts.specs.Faults.{IfPage, is_refused}
 use Rattle.fl_parts.specs.KeptSteps.{AreFew, CountsOne, FailsReading, HasCome, HasComeBy, HasRows, Keeps, MayRead}
 use Rattle.fl_parts.specs.Knowing.{IsWithin, is_waiting}
@@ -29,7 +30,6 @@ use Rattle.fl_parts.specs.declared.load.PageRows.{PageRows}
 use Rattle.fl_parts.specs.declared.mount_fault.MountFault.{MountFault}
 use Rattle.fl_parts.proofs.KeyRows.{good-few, page-length}
 use Rattle.fl_parts.proofs.ListedPages.{data-lies, fails-later, some-room}
-use Rattle.fl_parts.proofs.MountProgress.{fewer-reads}
 use Rattle.fl_parts.proofs.Refused.{page-no_flash, page-page, page-pages}
 use Rattle.fl_parts.proofs.SparedReads.{spared-more, spared-none, spared-reads, spared-within, waiting-few}
 
@@ -127,14 +127,11 @@ pub come-keeps : {ring : Ring} {number n m : ℕ} {a b c : FlashState} {known mi
 come-keeps {ring = ring} {number = number} {m = m} {b = b} {c = c} {mid = mid} {now = now} all le x within waits reads =
     come-then all le x (record { come = record { low = x.come.low; high = x.come.high; within = within (oldest_of ring) (number - oldest_of ring) x.come.within }; spared = spared-reads b c m mid now reads waits })
 
-pub reads-none : (f : FlashState) (n : ℕ) → OnlyReads f n f
-reads-none f n = fewer-reads f f 0 n (omega arith) (no_reads f)
-
 pub reads-then : {a b c : FlashState} {n m : ℕ} (all : ℕ) → n + m ≤ all → OnlyReads a n b → OnlyReads b m c → OnlyReads a all c
-reads-then {a = a} {b = b} {c = c} {n = n} {m = m} all le x y = fewer-reads a c (n + m) all le (more_reads a b c n m x y)
+reads-then {a = a} {b = b} {c = c} {n = n} {m = m} all le x y = fewer_reads a c (n + m) all (more_reads a b c n m x y) le
 
 pub more-waiting : {a b : FlashState} {n : ℕ} (w : ℕ) → OnlyReads a n b → OnlyReads a (n + w) b
-more-waiting {a = a} {b = b} {n = n} w x = fewer-reads a b n (n + w) (omega arith) x
+more-waiting {a = a} {b = b} {n = n} w x = fewer_reads a b n (n + w) x (omega arith)
 
 pub waits-on : (n later known : ℕ) → later ≤ known → n + later ≤ n + known
 waits-on n later known le = omega (arith, le)

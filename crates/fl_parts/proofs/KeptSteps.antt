@@ -13,7 +13,7 @@ use Rattle.fl_ring.specs.Ring.{place}
 use Rattle.fl_ring.specs.declared.ring.Ring.{Ring}
 use Rattle.fl_parts.specs.Bitmaps.{AreSamePlan, first_to_wait}
 use Rattle.fl_parts.specs.ByEntries.{Come, mount_fault, unlisted_of}
-use Rattle.fl_parts.specs.Coming.{AreListedBefore, AreRowsOf, AreUnlisted, ComesTo, WaitBetween, WaitUnlisted, come_of, index_pages_of, most_in}
+use Rattle.fl_parts.specs.Coming.{AreListedBefore, AreRowsOf, AreUnlisted, ComesTo, WaitBetween, WaitUnlisted, come_on, index_pages_of, most_in}
 use Rattle.fl_parts.specs.Faults.{IfPage}
 use Rattle.fl_parts.specs.KeptRead.{FindsKept, LeavesKept, RefusesKept}
 use Rattle.fl_parts.specs.KeptSteps.{FailsReading, FindsPages, HasCome, HasComeBy, LeavesNoted}
@@ -27,11 +27,12 @@ use Rattle.fl_parts.proofs.MountProgress.{comes-of, knows-nothing, nothing-withi
 use Rattle.fl_parts.proofs.NotedEntries.{first-same}
 use Rattle.fl_parts.proofs.SparedReads.{waiting-few}
 
--- how many rows a page holds is told by a row's length
-pub comes-at : (layout : RowLayout) (page len : ℕ) (bitmaps : Option BitmapIndex) (ring : Ring) (f : FlashState) → len ≡ layout_len layout →
-    ComesTo (come_of layout (most_in page layout) bitmaps ring f) layout ((page - 24) / len) bitmaps ring f
-comes-at layout page len bitmaps ring f is =
-    subst (λ n. ComesTo (come_of layout (most_in page layout) bitmaps ring f) layout ((page - 24) / n) bitmaps ring f) (sym is) (comes-of layout (most_in page layout) bitmaps ring f)
+-- how many rows a page holds is told by its size and a row's length
+pub comes-at : (layout : RowLayout) (page len : ℕ) (bitmaps : Option BitmapIndex) (ring : Ring) (f : FlashState) → page ≡ f.geometry.page → len ≡ layout_len layout →
+    ComesTo (come_on layout bitmaps ring f) layout ((page - 24) / len) bitmaps ring f
+comes-at layout page len bitmaps ring f size is =
+    subst (λ p. ComesTo (come_on layout bitmaps ring f) layout ((p - 24) / len) bitmaps ring f) (sym size)
+    (subst (λ n. ComesTo (come_on layout bitmaps ring f) layout ((f.geometry.page - 24) / n) bitmaps ring f) (sym is) (comes-of layout (most_in f.geometry.page layout) bitmaps ring f))
 
 -- nothing is known before any page came
 pub begins : {KNOTS SLOTS : ℕ} (error : ℕ) (t : Come) (known : Known) (counts : List ℕ) (index : KeyIndex KNOTS SLOTS) →

@@ -44,7 +44,6 @@ pub mod IndexPages
 pub mod ListedPages
 pub mod FoundReads
 pub mod KeptPages
-pub mod SingleReads
 pub mod VarRepairs
 pub mod BlobsWithin
 pub mod MountKeeps

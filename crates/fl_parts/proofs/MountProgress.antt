@@ -55,19 +55,6 @@ unlisted-behind t from next none low high ends =
     let all : (from - t.oldest) + (next - from) ≡ t.pages = omega (arith, low, high, ends) in
     sym (ap (unlisted_of t t.oldest) all) ∙ unlisted-more t (from - t.oldest) (next - from) (subst (AreUnlisted t) (sym at) none) (omega (arith, all))
 
-pub fewer-reads : (f g : FlashState) (n m : ℕ) → n ≤ m → OnlyReads f n g → OnlyReads f m g
-fewer-reads f g n m le h = record {
-  goes = h.goes;
-  same = h.same;
-  armed = h.armed;
-  power = h.power;
-  cuts = h.cuts;
-  reads = omega (arith, h.reads, le);
-  media_reads = omega (arith, h.media_reads, le);
-  programs = h.programs;
-  erases = h.erases;
-}
-
 -- the kept data pages of a mount
 pub come-rows : (layout : RowLayout) (most : ℕ) (bitmaps : Option BitmapIndex) (ring : Ring) (f : FlashState) → AreRowsOf (come_of layout most bitmaps ring f) layout ring f
 come-rows layout most None ring f = record { layout_is = refl; rows = λ number. refl; oldest = refl; pages = refl }

@@ -121,7 +121,7 @@ abbrev pub StandFound : Option BitmapIndex → FlashState → ℕ → Plan → T
 StandFound None f first plan table = Unit {0}
 StandFound (Some index) f first plan table = StandsFoundBy (form_in index).full index f first plan table
 
--- what a mount comes to on this flash, where the index was found so
+-- what a mount comes to on this flash, where the index was found so, and a page holds at most so many rows
 abbrev pub come_of : RowLayout → ℕ → Option BitmapIndex → Ring → FlashState → Come
 come_of layout most None ring f = record {
   form = record { width = 0; full = false };
@@ -147,3 +147,7 @@ come_of layout most (Some index) ring f = record {
   oldest = oldest_of ring;
   pages = next_of ring - oldest_of ring;
 }
+
+-- .. as many as a page of this flash has room for
+abbrev pub come_on : RowLayout → Option BitmapIndex → Ring → FlashState → Come
+come_on layout bitmaps ring f = come_of layout (most_in f.geometry.page layout) bitmaps ring f

@@ -24,8 +24,9 @@ pub record LeavesKept (bitmaps : Option BitmapIndex) (ring : Ring) (old : FlashS
   pub lies : LieOn now new
   pub reads : OnlyReads old (index_pages_of bitmaps + (next_of ring - oldest_of ring)) new
 
--- All data pages are counted. Of those that no index page lists the entries of the last ones wait, up to the next number, and the
--- first data page of each index page is remembered: so an index that stood for that of a table does so now, with its first pages.
+-- All data pages are counted. Of those that no index page lists the entries of the last ones wait, up to the next number. If entries
+-- are full, the first data page of each index page that isn't bad is remembered: so an index that stood for that of a table does so
+-- now, with its first pages.
 pub record FindsKept (t : Come) (bitmaps : Option BitmapIndex) (ring : Ring) (old : FlashState) (end : ℕ) (known : Known)
     (now : Option BitmapIndex) (new : FlashState) : Type 0 where
   pub counted : known.newest ≡ None

@@ -7,7 +7,7 @@ ghost use Rattle.fl_ring.specs.Ring.{room};
 ghost use Rattle.fl_schema.specs.Schema.{layout_of};
 ghost use Rattle.fl_parts.specs.Bitmaps.{AreIdle, AreRunning, LieOn};
 ghost use Rattle.fl_parts.specs.ByEntries.{Come, mount_fault, unlisted_of};
-ghost use Rattle.fl_parts.specs.Coming.{AreRowsOf, AreUnlisted, ComesTo, WaitUnlisted, come_of, most_in};
+ghost use Rattle.fl_parts.specs.Coming.{AreRowsOf, AreUnlisted, ComesTo, WaitUnlisted, come_on};
 ghost use Rattle.fl_parts.specs.KeptRead.{FindsKept, LeavesKept, RefusesKept};
 ghost use Rattle.fl_parts.specs.KeptSteps.{FailsReading, FindsPages, HasCome, Keeps, LeavesNoted, MayRead, ReadsRest};
 ghost use Rattle.fl_parts.specs.Knowing.{KnowsWith, is_waiting};
@@ -27,16 +27,16 @@ use fl_schema::Schema;
 
 /// Reads the kept pages of the data ring, and those of an index whose entries are full and which ends at this number. It
 /// answers what is known of the data pages. Of those that no index page lists the entries of the last ones wait then.
-/// A page has so many bytes as `page` tells, and `counts` has the number of rows of each page, by its place in the ring.
+/// `counts` has the number of rows of each page then, by its place in the ring.
 ///
 /// # Errors
 ///
-/// `Flash` where a read fails, and else the first fault of the kept pages: `BadPage`, `BadKeys` or `BadEntry`.
+/// `Flash` if a read failed; `BadPage`, `BadKeys` or `BadEntry` for the first fault of the kept pages. After an error
+/// `counts`, `index` and the entries that wait are of no use: they are to be cleared.
 pub fn read_kept<F: Flash, const KNOTS: usize, const SLOTS: usize>(
     schema: &Schema<8>,
     ring: &Ring,
     end: u32,
-    page: u32,
     counts: &mut [u16],
     index: &mut KeyIndex<KNOTS, SLOTS>,
     bitmaps: &mut Option<BitmapIndex>,
@@ -44,7 +44,6 @@ pub fn read_kept<F: Flash, const KNOTS: usize, const SLOTS: usize>(
     buf: &mut PageBuf,
 ) -> Result<Known, MountFault>
     requires row { 1 ≤ layout_len (layout_of schema.now) }
-    requires page { 24 ≤ page }
     requires lies { LiesOn ring.now (F.state flash.old) }
     requires bitmaps_lie { LieOn bitmaps.old (F.state flash.old) }
     requires running { AreRunning bitmaps.old }
@@ -56,21 +55,17 @@ pub fn read_kept<F: Flash, const KNOTS: usize, const SLOTS: usize>(
     requires end { end ≤ next_of ring.now }
     requires empty { IndexOf (error_in index.old) [] index.old }
     ensures knows { IfOk result (λ known. IsTrue (F.state flash.old).media.tells →
-        let layout = layout_of schema.now in
-        let t = come_of layout (most_in page layout) bitmaps.old ring.now (F.state flash.old) in
+        let t = come_on (layout_of schema.now) bitmaps.old ring.now (F.state flash.old) in
         KnowsWith (error_in index.old) t t.index_pages t.pages known counts.new index.new) }
     ensures found { IfOk result (λ known.
-        let layout = layout_of schema.now in
-        let t = come_of layout (most_in page layout) bitmaps.old ring.now (F.state flash.old) in
+        let t = come_on (layout_of schema.now) bitmaps.old ring.now (F.state flash.old) in
         FindsKept t bitmaps.old ring.now (F.state flash.old) end known bitmaps.new (F.state flash.new)) }
     ensures refused { IfErr result (λ e.
-        let layout = layout_of schema.now in
-        let t = come_of layout (most_in page layout) bitmaps.old ring.now (F.state flash.old) in
+        let t = come_on (layout_of schema.now) bitmaps.old ring.now (F.state flash.old) in
         RefusesKept t (F.state flash.old) e (F.state flash.new)) }
     ensures leaves { LeavesKept bitmaps.old ring.now (F.state flash.old) bitmaps.new (F.state flash.new) }
     ensures few_reads { IsTrue (F.state flash.old).media.tells →
-        let layout = layout_of schema.now in
-        let t = come_of layout (most_in page layout) bitmaps.old ring.now (F.state flash.old) in
+        let t = come_on (layout_of schema.now) bitmaps.old ring.now (F.state flash.old) in
         (F.state flash.new).work.reads ≤
         (F.state flash.old).work.reads + t.index_pages + unlisted_of t t.oldest t.pages + 1 }
     ensures size { length counts.new ≡ length counts.old }
@@ -78,6 +73,7 @@ pub fn read_kept<F: Flash, const KNOTS: usize, const SLOTS: usize>(
     ensures room { length buf.new.bytes ≡ length buf.old.bytes }
     ensures none { buf.new.holds ≡ None }
 {
+    let page = flash.geometry().page;
     let limit = (page - 24) / schema.row_len();
     read_within(schema, ring, end, limit, counts, index, bitmaps, flash, buf)
 }

@@ -21,7 +21,7 @@ pub record SealsInMemory (old : Ring) (body : List ℕ) (result : Result (Unit {
   pub next : OnOk result (next_of new ≡ next_of old + 1)
   pub kept_from : OnOk result (oldest_of new ≡ oldest_after old)
   pub lies : OnOk result (LiesOn new g)
-  -- its numbers stand for the state that the seal makes
+  -- .. and its numbers, if they stood for a state, stand for the one that the seal makes
   pub numbers : OnOk result ((s : RingState) → StandsFor old s → IsRing (shape_of old) s → StandsFor new (erased (sealed (shape_of old) s body)))
 
 -- What it does to the flash.
@@ -32,10 +32,11 @@ pub record SealsOnFlash (ring : Ring) (body : List ℕ) (old : FlashState) (resu
   pub calls : SealCalls (shape_of ring) (next_of ring) (oldest_goes ring) body old result new
   -- one seal was tried, and no page is another but those that it may change
   pub writes : Writes (MaySeal ring) (done result) 1 old new
-  -- each page outside the ring stands
+  -- each page outside the ring stands, where the flash tells its bytes
   pub outside : IsTrue old.media.tells → OutsideStands (shape_of ring) (page_at old) (page_at new)
-  -- after an Ok the next page has the body and the mark of a commit, and the pages that are kept stand
+  -- after an Ok the body and the mark of a commit were programmed over what the next page held
   pub page : OnOk result (IsTrue old.media.tells → page_at new (place (shape_of ring) (next_of ring)) ≡ sealed_over (shape_of ring) body (page_at old (place (shape_of ring) (next_of ring))))
+  -- .. and if the flash stood for the ring, with no page torn and no block due, the pages that are kept stand
   pub keeps : OnOk result (IsTrue old.media.tells → (s : RingState) → IsReady ring old s → (n : ℕ) → oldest (sealed (shape_of ring) s body) ≤ n → n < s.next
       → page_at new (place (shape_of ring) n) ≡ page_at old (place (shape_of ring) n))
   -- two programs, and an erase if the oldest block goes

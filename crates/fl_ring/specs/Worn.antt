@@ -12,7 +12,7 @@ use Rattle.fl_ring.specs.Ring.{Shape, RingState, IsShape, fresh, is_due_at}
 use Rattle.fl_ring.specs.Sealing.{IsReady, Seals, ErasesWhere, SealCalls}
 use Rattle.fl_ring.specs.declared.ring.Ring.{Ring}
 
--- what the clauses `seals` and `calls` of a seal say that ended well
+-- what the clauses `seals` and `flash.calls` of a seal say that ended well
 pub record SealsWell (r : Shape) (s : RingState) : Type 0 where
   pub before : Ring
   pub after : Ring
@@ -26,7 +26,7 @@ pub record SealsWell (r : Shape) (s : RingState) : Type 0 where
   pub seals : Seals s body rose device before (Ok tt) after new
   pub calls : SealCalls (shape_of before) (next_of before) (is_due_at (shape_of before) (next_of before + 1) (next_of before + 1 - oldest_of before)) body old (Ok tt) new
 
--- what the clauses `ends` and `found` of a mount say that ended well
+-- what the clauses `mounts.ends` and `mounts.found` of a mount say that ended well
 pub record MountsWell (r : Shape) (s : RingState) : Type 0 where
   pub ring : Ring
   pub old : FlashState

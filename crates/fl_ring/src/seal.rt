@@ -23,7 +23,7 @@ impl Ring {
             → IsReady self.old (F.state flash.old) s
             → IsWatched (F.state flash.old) (F.state flash.new) rose device
             → Seals s body.now rose device self.old result self.new (F.state flash.new) }
-        // Whatever the flash holds:
+        // Whatever the flash holds, where a field asks for no more:
         ensures memory { SealsInMemory self.old body.now result self.new (F.state flash.new) }
         ensures flash { SealsOnFlash self.old body.now
             (F.state flash.old) result (F.state flash.new) }

@@ -7,9 +7,9 @@ use Rattle.fl_flash.specs.Flash.{FlashState, ReadsPage, page_at}
 use Rattle.fl_flash.specs.declared.flash.FlashFault.{FlashFault}
 use Rattle.fl_frame.specs.Causes.{ReadFails}
 use Rattle.fl_frame.proofs.ReadsInTurn.{was_on}
+use Rattle.fl_frame.proofs.SingleReads.{read_fails}
 use Rattle.fl_model.specs.Record.{Plan}
 use Rattle.fl_model.specs.Table.{Table}
-use Rattle.fl_parts.proofs.SingleReads.{read-fails}
 use Rattle.fl_ring.specs.Mounting.{search_reads}
 use Rattle.fl_ring.specs.Newest.{NewestAmong}
 use Rattle.fl_ring.specs.Place.{next_of, oldest_of}
@@ -71,7 +71,7 @@ read-told old new page at size (Err fault) into same is = tt
 -- .. or it failed for one of two causes,
 pub read-failed : (old new : FlashState) (page size : ℕ) (result : Result (Unit {0}) FlashFault) (into : BufferState) → ReadsPage old page size result into new → IfErr result (λ e. ReadFails old e new)
 read-failed old new page size (Ok done) into is = tt
-read-failed old new page size (Err fault) into is = read-fails old new page size fault into is
+read-failed old new page size (Err fault) into is = read_fails old new page size fault into is
 
 -- .. and where it didn't fail, the power is on
 pub read-powered : (old new : FlashState) (page size : ℕ) (result : Result (Unit {0}) FlashFault) (into : BufferState) → ReadsPage old page size result into new → OnOk result (new.is_on ≡ true)

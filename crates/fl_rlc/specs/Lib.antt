@@ -16,5 +16,7 @@ pub mod Calls
 pub mod Refusal
 pub mod Rows
 pub mod Mounting
+pub mod Mounts
 pub mod MountingApart
 pub mod Left
+pub mod Replays

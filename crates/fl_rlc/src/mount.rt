@@ -1,12 +1,8 @@
 // The mount of a table with a log.
-ghost use Rattle.std.specs.Prelude.{◌≡◌, ◌⊎◌, ◌≤◌, ◌+◌, ◌*◌, ℕ, Some, None, Err, true, false, is_ok, length, IsTrue, IfOk, IfErr, OnOk};
-ghost use Rattle.fl_flash.specs.Flash.{FlashState, Goes, page_at};
-ghost use Rattle.fl_flash.specs.declared.flash.FlashFault.{FlashFault};
+ghost use Rattle.std.specs.Prelude.{◌≡◌, ◌⊎◌, ◌≤◌, ◌+◌, ℕ, Some, None, Err, true, false, length, IsTrue, IfOk, IfErr, OnOk};
+ghost use Rattle.fl_flash.specs.Flash.{FlashState, page_at};
 ghost use Rattle.fl_model.specs.Record.{Plan};
 ghost use Rattle.fl_model.specs.Table as model;
-ghost use Rattle.fl_frame.specs.Reads.{FewReads};
-ghost use Rattle.fl_parts.specs.Faults.{MountCausedBy};
-ghost use Rattle.fl_parts.specs.IndexMount.{FewRepairs};
 ghost use Rattle.fl_table.specs.Outcomes.{mounted_of};
 ghost use Rattle.fl_table.specs.Standing as without_log;
 ghost use Rattle.fl_rlc.specs.Table.{mounted_in};
@@ -39,11 +35,13 @@ impl<const KNOTS: usize, const SLOTS: usize> LoggedTable<KNOTS, SLOTS> {
     ghost use Rattle.fl_parts.specs.Pages.{RestsToMount};
     ghost use Rattle.fl_rlc.specs.Left.{LeavesPages};
     ghost use Rattle.fl_rlc.specs.Logged.{Rests};
-    ghost use Rattle.fl_rlc.specs.Mounting.{FindsPages, RefusesPages, pages_in};
+    ghost use Rattle.fl_parts.specs.Calls.{HoldsNone};
+    ghost use Rattle.fl_rlc.specs.Mounting.{FindsPages, RefusesPages};
     ghost use Rattle.fl_rlc.specs.MountingApart.{RestApart, MountApartEnds};
+    ghost use Rattle.fl_rlc.specs.Mounts.{MountsFlash, MountsInMemory};
     ghost use Rattle.fl_rlc.specs.Outcomes.{MountEnds};
     ghost use Rattle.fl_rlc.specs.declared.log.RecordLog.{RecordLog};
-    ghost use Rattle.fl_rlc.specs.Table.{is_logged, is_running, is_stopped, repairs_in, IsPlanned, IsSamePlan, LiesOn, NothingWaits, OutsideStands, log_in, table_in};
+    ghost use Rattle.fl_rlc.specs.Table.{is_logged, IsPlanned, LiesOn, log_in, table_in};
 
     /// Mounts the table and then its log, where it has one. The records of the log's newest page that no data page has
     /// become a page of the table, unless its page numbers are spent. It answers what the table holds then.
@@ -61,20 +59,14 @@ impl<const KNOTS: usize, const SLOTS: usize> LoggedTable<KNOTS, SLOTS> {
     ) -> Result<Mounted, MountFault>
         requires lies { LiesOn self.old (F.state flash.old) }
         requires room { length buf.old.bytes ≡ (F.state flash.old).geometry.page }
-        ensures goes { Goes (F.state flash.old) (F.state flash.new) }
-        ensures same { IsSamePlan self.old self.new }
-        ensures lies { LiesOn self.new (F.state flash.new) }
-        ensures room { length buf.new.bytes ≡ length buf.old.bytes }
-        ensures holds { buf.new.holds ≡ None }
+        ensures memory { MountsInMemory self.old result self.new (F.state flash.new) }
+        ensures buffer { HoldsNone buf.old buf.new }
         ensures ends { (first : ℕ) → (plan : Plan) → (table : model.Table) → (rose : Bool) → (device : Device) → IsWatched (F.state flash.old) (F.state flash.new) rose device
             → IsPlanned self.old first plan → Rests (F.state flash.old) first plan table → MountEnds first plan table rose device result self.new (F.state flash.new) }
         ensures alone { (first : ℕ) → (plan : Plan) → (table : model.Table) → (rose : Bool) → (device : Device) → IsWatched (F.state flash.old) (F.state flash.new) rose device
             → IsPlanned self.old first plan → log_in self.old ≡ None → RestsToMount (F.state flash.old) first (bare plan) table → without_log_ends.MountEnds first (bare plan) table rose device result (table_in self.new) (F.state flash.new) }
         ensures apart { (first : ℕ) → (plan : Plan) → (table : model.Table) → (rose : Bool) → (device : Device) → (log : RecordLog) → IsWatched (F.state flash.old) (F.state flash.new) rose device
             → IsPlanned self.old first plan → log_in self.old ≡ Some log → RestApart log (F.state flash.old) first plan table → MountApartEnds first plan table rose device log result self.new (F.state flash.new) }
-        ensures mounted { is_running self.new ≡ is_ok result }
-        ensures calm { is_stopped self.new ≡ false }
-        ensures empty { OnOk result (NothingWaits self.new) }
         ensures found { IfOk result (λ mounted. IsTrue (F.state flash.old).media.tells → FindsPages self.old (F.state flash.old) mounted self.new (F.state flash.new)) }
         ensures leaves { OnOk result (IsTrue (F.state flash.old).media.tells → (first : ℕ) → (plan : Plan) → (table : model.Table)
             → (is_logged self.old ≡ false) ⊎ ((rose : Bool) × (device : Device) × IsWatched (F.state flash.old) (F.state flash.new) rose device)
@@ -82,18 +74,13 @@ impl<const KNOTS: usize, const SLOTS: usize> LoggedTable<KNOTS, SLOTS> {
         ensures alone_leaves { OnOk result (IsTrue (F.state flash.old).media.tells → (first : ℕ) → (plan : Plan)
             → IsPlanned self.old first plan → log_in self.old ≡ None → LeavesPages first plan (page_at (F.state flash.old)) (page_at (F.state flash.new))) }
         ensures refused { IfErr result (λ e. IsTrue (F.state flash.old).media.tells → RefusesPages self.old (F.state flash.old) e (F.state flash.new)) }
-        ensures outside { IsTrue (F.state flash.old).media.tells → OutsideStands self.old (page_at (F.state flash.old)) (page_at (F.state flash.new)) }
-        ensures reads { IsTrue (F.state flash.old).media.tells → FewReads (4 * pages_in self.old) (F.state flash.old) (F.state flash.new) }
         ensures limit { (first : ℕ) → (plan : Plan) → (table : model.Table) → (rose : Bool) → (device : Device) → IsWatched (F.state flash.old) (F.state flash.new) rose device
             → IsPlanned self.old first plan → Rests (F.state flash.old) first plan table → plan.full_index ≡ true
             → (F.state flash.new).work.reads ≤ (F.state flash.old).work.reads + mount_limit plan table }
         ensures alone_limit { (first : ℕ) → (plan : Plan) → (table : model.Table) → (rose : Bool) → (device : Device) → IsWatched (F.state flash.old) (F.state flash.new) rose device
             → IsPlanned self.old first plan → log_in self.old ≡ None → RestsToMount (F.state flash.old) first (bare plan) table → plan.full_index ≡ true
             → (F.state flash.new).work.reads ≤ (F.state flash.old).work.reads + mount_limit (bare plan) table }
-        ensures repairs { FewRepairs (repairs_in self.old) (F.state flash.old) (F.state flash.new) }
-        ensures power { OnOk result ((F.state flash.old).is_on ≡ true → (F.state flash.new).is_on ≡ true) }
-        ensures cause { IfErr result (λ e. MountCausedBy (F.state flash.old) e (F.state flash.new)) }
-        ensures off { (F.state flash.old).is_on ≡ false → (result ≡ Err (MountFault.Flash FlashFault.PowerLost)) × (F.state flash.new ≡ F.state flash.old) }
+        ensures flash { MountsFlash self.old (F.state flash.old) result (F.state flash.new) }
     {
         let mounted = self.table.mount(flash, buf)?;
         let Some(log) = &mut self.log else {

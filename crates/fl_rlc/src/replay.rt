@@ -1,37 +1,34 @@
 // The replay of a log: the records of its newest page that no data page has become a page of the table.
-ghost use Rattle.std.specs.Prelude.{◌≡◌, ◌+◌, ◌*◌, ◌<◌, ◌≤◌, ℕ, Bool, true, false, Some, None, [], Ok, Err, is_ok, length, IsTrue, IfOk, IfErr, OnOk, OnErr};
-ghost use Rattle.fl_flash.specs.Flash.{FlashState, Goes, page_at};
+ghost use Rattle.std.specs.Prelude.{◌≡◌, ◌+◌, ◌<◌, ◌≤◌, ℕ, Bool, true, false, Some, None, Ok, Err, is_ok, length, IsTrue, IfErr, OnOk, OnErr};
+ghost use Rattle.fl_flash.specs.Flash.{Goes, page_at};
 ghost use Rattle.fl_model.specs.Bare.{bare, bare_table};
 ghost use Rattle.fl_model.specs.Mount.{ready};
 ghost use Rattle.fl_model.specs.MountLimit.{log_mount_limit};
-ghost use Rattle.fl_model.specs.Record.{Plan, RowLayout, layout_len, blocks_of};
+ghost use Rattle.fl_model.specs.Record.{Plan, layout_len, blocks_of};
 ghost use Rattle.fl_model.specs.Table as model;
 ghost use Rattle.fl_model.specs.Table.{LogRing, shape_of, table_seals};
 ghost use Rattle.fl_model.specs.Work.{Device};
 ghost use Rattle.fl_page.specs.Page.{rows_in as page_rows};
-ghost use Rattle.fl_page.specs.Writer.{Gathers};
-ghost use Rattle.fl_frame.specs.Reads.{OnlyReads, FewReads};
+ghost use Rattle.fl_frame.specs.Reads.{OnlyReads};
 ghost use Rattle.fl_frame.specs.Causes.{ReadFails, CausedBy};
 ghost use Rattle.fl_frame.specs.Watched.{IsWatched};
 ghost use Rattle.fl_schema.specs.Schema.{layout_of};
 ghost use Rattle.fl_table.specs.BlobAt.{has_blobs};
-ghost use Rattle.fl_ring.specs.Ring.{room};
 ghost use Rattle.fl_ring.specs.Written.{Writes};
-ghost use Rattle.fl_parts.specs.Faults.{IfFlash, IfPage, is_of_pages, MountCausedBy};
+ghost use Rattle.fl_parts.specs.Faults.{IfFlash, IfPage, is_of_pages};
 ghost use Rattle.fl_table.specs.Look.{layout_in};
 ghost use Rattle.fl_table.specs.Memory as table_words;
 ghost use Rattle.fl_table.specs.Memory.{is_running, is_stopped, pending_in};
-ghost use Rattle.fl_parts.specs.IndexMount.{FewRepairs};
 ghost use Rattle.fl_table.specs.Mounting as mounting;
 ghost use Rattle.fl_table.specs.Outcomes.{SealsEnd};
 ghost use Rattle.fl_table.specs.Standing as without_log;
 ghost use Rattle.fl_rlc.specs.Joining.{HasNewest};
-ghost use Rattle.fl_rlc.specs.Memory.{is_mounted, rows_in, page_in, log_shape, LiesOn, IsSamePlan};
+ghost use Rattle.fl_rlc.specs.Memory.{is_mounted, page_in, LiesOn};
 ghost use Rattle.fl_rlc.specs.Repairing as repairing;
-ghost use Rattle.fl_rlc.specs.Finding.{FindsLog, RefusesLog, StandBeside};
-ghost use Rattle.fl_rlc.specs.Left.{ReplayLeaves};
 ghost use Rattle.fl_rlc.specs.Offering.{AreOffered, AreSealed};
 ghost use Rattle.fl_rlc.specs.Replaying.{MayStand, IsBad, JoinsEnd, ReplayEnds};
+ghost use Rattle.fl_rlc.specs.Replays.{ReplayFails, ReplayFinds, ReplayFlash, ReplayKeeps};
+ghost use Rattle.fl_parts.specs.Calls.{HoldsNone};
 
 use crate::join::join_rows;
 use crate::log::RecordLog;
@@ -139,33 +136,16 @@ pub(crate) fn replay<F: Flash, const KNOTS: usize, const SLOTS: usize>(
     requires lies { LiesOn log.old (F.state flash.old) }
     requires table_lies { table_words.LiesOn table.old (F.state flash.old) }
     requires room { length buf.old.bytes ≡ (F.state flash.old).geometry.page }
-    ensures goes { Goes (F.state flash.old) (F.state flash.new) }
-    ensures same { IsSamePlan log.old log.new }
-    ensures table_same { table_words.IsSamePlan table.old table.new }
-    ensures lies { LiesOn log.new (F.state flash.new) }
-    ensures table_lies { table_words.LiesOn table.new (F.state flash.new) }
-    ensures room { length buf.new.bytes ≡ length buf.old.bytes }
-    ensures holds { buf.new.holds ≡ None }
-    ensures mounted { OnOk result (is_mounted log.new ≡ true) }
-    ensures running { OnOk result (is_running table.new ≡ true) }
-    ensures calm { OnOk result (is_stopped table.new ≡ is_stopped table.old) }
-    ensures table_empty { OnOk result (table_words.NothingWaits table.new) }
-    ensures empty { (layout : RowLayout) → Gathers layout [] (rows_in log.new) }
+    ensures keeps { ReplayKeeps log.old table.old log.new table.new (F.state flash.new) }
+    ensures buffer { HoldsNone buf.old buf.new }
     ensures ends { (first : ℕ) → (plan : Plan) → (table_now : model.Table) → (rose : Bool) → (device : Device) → IsWatched (F.state flash.old) (F.state flash.new) rose device
         → without_log.Stands table.old (F.state flash.old) first (bare plan) (ready (bare plan) (bare_table table_now)) → table_now.pending ≡ 0
         → repairing.Rests log.old (F.state flash.old) (first + blocks_of (bare plan)) plan table_now → ReplayEnds first plan table_now rose device log.old result log.new table.new (F.state flash.new) }
-    ensures found { OnOk result (IsTrue (F.state flash.old).media.tells → FindsLog (layout_in table.old) log.old (F.state flash.old) table.old log.new table.new (F.state flash.new)) }
-    ensures leaves { OnOk result ((first : ℕ) → (plan : Plan) → (table_now : model.Table) → (rose : Bool) → (device : Device) → IsWatched (F.state flash.old) (F.state flash.new) rose device
-        → without_log.Stands table.old (F.state flash.old) first (bare plan) (ready (bare plan) (bare_table table_now)) → table_now.pending ≡ 0
-        → repairing.Rests log.old (F.state flash.old) (first + blocks_of (bare plan)) plan table_now → ReplayLeaves first plan table_now (page_at (F.state flash.old)) (page_at (F.state flash.new))) }
-    ensures refused { IfErr result (λ e. IsTrue (F.state flash.old).media.tells → RefusesLog (layout_in table.old) log.old (F.state flash.old) table.old e (F.state flash.new)) }
-    ensures outside { IsTrue (F.state flash.old).media.tells → StandBeside table.old log.old (page_at (F.state flash.old)) (page_at (F.state flash.new)) }
-    ensures reads { FewReads (4 * room (log_shape log.old)) (F.state flash.old) (F.state flash.new) }
-    ensures repairs { FewRepairs (1 + 2 * mounting.rings_in table.old) (F.state flash.old) (F.state flash.new) }
+    ensures finds { OnOk result (ReplayFinds log.old table.old (F.state flash.old) log.new table.new (F.state flash.new)) }
+    ensures fails { IfErr result (λ e. ReplayFails log.old table.old (F.state flash.old) e (F.state flash.new)) }
+    ensures flash { ReplayFlash log.old table.old (F.state flash.old) (F.state flash.new) }
     ensures limit { (first : ℕ) → (plan : Plan) → (table_now : model.Table) → IsTrue (F.state flash.old).media.tells → repairing.Rests log.old (F.state flash.old) first plan table_now
         → (F.state flash.new).work.reads ≤ (F.state flash.old).work.reads + log_mount_limit (shape_of plan LogRing) table_now.log }
-    ensures power { OnOk result ((F.state flash.new).is_on ≡ true) }
-    ensures cause { IfErr result (λ e. MountCausedBy (F.state flash.old) e (F.state flash.new)) }
 {
     let Some(newest) = log.mount(flash, buf)? else {
         return Ok(());

@@ -5,7 +5,7 @@ use Rattle.fl_flash.specs.Flash.{FlashState, page_at}
 use Rattle.fl_flash.specs.declared.flash.FlashFault.{FlashFault}
 use Rattle.fl_frame.specs.Causes.{ReadFails}
 use Rattle.fl_frame.specs.Reads.{OnlyReads}
-use Rattle.fl_frame.proofs.ReadsInTurn.{looks_by, more_reads, no_reads, same_page, told_still}
+use Rattle.fl_frame.proofs.ReadsInTurn.{looks_by, more_reads, same_page, told_still}
 use Rattle.fl_mark.specs.declared.page_state.PageState.{PageState}
 use Rattle.fl_ring.specs.declared.ring.Ring.{Ring}
 use Rattle.fl_ring.specs.Looking.{state_at}
@@ -50,9 +50,6 @@ number_long bytes held is room least = let same = ap length is in omega (arith, 
 
 pub header_long : {size : ℕ} (bytes held : List ℕ) → bytes ≡ held → length held ≡ size → 64 ≤ size → 24 ≤ length bytes
 header_long bytes held is room least = let same = ap length is in omega (arith, same, room, least)
-
-pub none_read : (f : FlashState) (n : ℕ) → OnlyReads f n f
-none_read f n = fewer_reads f f 0 n (no_reads f) (omega arith)
 
 -- bounds that say nothing
 pub one_of : (n : ℕ) → 1 ≤ 1 + n

@@ -28,6 +28,7 @@ pub mod MountVar
 pub mod FurtherMounts
 pub mod MountCalls
 pub mod MountReads
+pub mod PagesInTable
 pub mod PendingKey
 pub mod Finds
 pub mod VoidPages

@@ -30,7 +30,7 @@ abbrev pub RowsPaged : {KNOTS SLOTS : ℕ} → Table KNOTS SLOTS → (ℕ → Li
 RowsPaged t old new = (rows : List Row) → PendingAre t rows →
     new (next_page t) ≡ sealed_over (ring_shape t) (rows_body (length t.writer.body) (layout_of t.schema) (next_in t) t.bitmap rows) (old (next_page t))
 
--- the bytes of blobs that waited are on their page, where no seal of another ring may change it
+-- the bytes of blobs that waited were programmed over what their page held, where no seal of another ring may change it
 abbrev pub BlobsPaged : {KNOTS SLOTS : ℕ} → Table KNOTS SLOTS → FlashState → FlashState → Type 0
 BlobsPaged t f g = IfSome t.blobs (λ var. 1 ≤ length (waiting_in var) → IsTrue f.media.tells → (bitmaps.MaySeal t.bitmaps (bytes_page var) → ⊥) → (MaySealIn t.ring (bytes_page var) → ⊥) → BytesPaged var (page_at f) (page_at g))
 

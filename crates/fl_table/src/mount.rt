@@ -88,7 +88,6 @@ impl<const KNOTS: usize, const SLOTS: usize> Table<KNOTS, SLOTS> {
             &self.schema,
             &ring,
             end,
-            self.geometry.page,
             &mut self.counts,
             &mut self.index,
             &mut self.bitmaps,

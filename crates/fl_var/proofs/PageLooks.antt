@@ -1,15 +1,9 @@
 -- What a look at a page of variable data leaves, and what it tells: of the page in memory, and of one that was read.
-use Rattle.std.proofs.Common.{◌≡◌, ℕ, ◌+◌, ◌*◌, ◌^◌, ◌<◌, ◌≤◌, Bool, true, false, cond, Some, Result, List, length, drop, inl, inr, refl, sym, ◌∙◌, ap, subst, arith}
+use Rattle.std.proofs.Common.{◌≡◌, ℕ, ◌+◌, ◌*◌, ◌^◌, ◌<◌, ◌≤◌, Bool, cond, Some, List, length, drop, inl, inr, sym, ◌∙◌, ap, subst, arith}
 use Rattle.std.proofs.lemmas.Bool.{cases_lt, eq-eqb, ne_eqb}
 use Rattle.std.proofs.lemmas.List.{length-drop}
 use Rattle.fl_base.specs.declared.types.Geometry.{Geometry}
-use Rattle.fl_flash.specs.Buffer.{BufferState}
-use Rattle.fl_flash.specs.Flash.{FlashState, Goes, ReadsPage, pages, page_at}
-use Rattle.fl_flash.specs.Media.{next_count}
-use Rattle.fl_flash.specs.declared.flash.FlashFault.{FlashFault}
-use Rattle.fl_flash.specs.declared.flash.Work.{Work}
-use Rattle.fl_frame.specs.Reads.{OnlyReads}
-use Rattle.fl_frame.proofs.CallsInTurn.{goes-same}
+use Rattle.fl_flash.specs.Flash.{FlashState, Goes, pages, page_at}
 use Rattle.fl_page.specs.Header.{page_count}
 use Rattle.fl_ring.specs.Place.{shape_of}
 use Rattle.fl_ring.specs.Ring.{Shape, place}
@@ -20,30 +14,6 @@ use Rattle.fl_var.specs.Memory.{next_in, waiting_in, room_in, page_in, image_in,
 use Rattle.fl_var.specs.declared.var_data.VarData.{VarData}
 use Rattle.fl_var.proofs.Lists.{not-none}
 use Rattle.fl_var.proofs.PageImages.{image-other, waiting-room}
-
--- no read, and one read of a page
-pub unread : (f : FlashState) → OnlyReads f 1 f
-unread f = record { goes = goes-same f; same = refl; armed = refl; power = refl; cuts = refl; reads = omega arith; media_reads = omega arith; programs = refl; erases = refl }
-
-pub read-once : (old new : FlashState) (page size : ℕ) (result : Result (Unit {0}) FlashFault) (into : BufferState) → ReadsPage old page size result into new → OnlyReads old 1 new
-read-once old new page size result into is = by_power old.is_on refl
-  where
-    by_power : (on : Bool) → old.is_on ≡ on → OnlyReads old 1 new
-    by_power true e =
-        let work = is.counted e in
-        let reads : new.work.reads ≡ next_count old.work.reads = ap (λ (w : Work). w.reads) work in
-        record {
-          goes = is.goes;
-          same = is.same;
-          armed = is.armed;
-          power = is.power;
-          cuts = is.cuts;
-          reads = omega (arith, reads);
-          media_reads = omega (arith, is.one_read e);
-          programs = ap (λ (w : Work). w.programs) work;
-          erases = ap (λ (w : Work). w.erases) work;
-        }
-    by_power false e = subst (λ (f : FlashState). OnlyReads old 1 f) (sym (is.off e).1) (unread old)
 
 -- what is read lies where it lay
 pub lies-later : (v : VarData) (f h : FlashState) → LiesOn v f → Goes f h → LiesOn v h

@@ -4,13 +4,13 @@ use Rattle.fl_frame.specs.Reads.{OnlyReads}
 use Rattle.fl_ring.specs.Place.{shape_of}
 use Rattle.fl_ring.proofs.Founds.{same_pages}
 use Rattle.fl_ring.proofs.ReadsInTurn.{fewer_reads}
-use Rattle.fl_frame.proofs.ReadsInTurn.{more_reads, told_still}
+use Rattle.fl_frame.proofs.ReadsInTurn.{more_reads, told_still, none_read}
 use Rattle.fl_rules.specs.Claims.{FailsFirst}
 use Rattle.fl_check.specs.Entries.{over, kept_below, AreSeen, HasEntries}
 use Rattle.fl_check.specs.declared.rule_6_entry.Seen.{Seen}
 use Rattle.fl_check.proofs.ListedPages.{none_seen, all_entered, overrun}
 use Rattle.std.proofs.lemmas.Result.{err_from_is_err_and}
-use Rattle.fl_rules.proofs.OneMorePage.{none_read, read_fails}
+use Rattle.fl_rules.proofs.OneMorePage.{read_fails}
 use Rattle.fl_check.proofs.rule_6_entry.first_misentered.Goals as goal
 
 pub loop-i-init : goal.loop-i-init

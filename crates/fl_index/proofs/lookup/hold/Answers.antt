@@ -1,9 +1,10 @@
 use Rattle.fl_ring.proofs.Exists.{lies_exists}
 use Rattle.fl_page.proofs.ReadsInTurn.{IsCaused-read}
-use Rattle.std.proofs.Common.{ℕ, ◌≡◌, List, length, Some, OnOk, zero-le, inr, refl, sym, ◌∙◌, ap, subst}
+use Rattle.std.proofs.Common.{ℕ, ◌≡◌, List, length, Some, OnOk, inr, refl, sym, ◌∙◌, ap, subst}
 use Rattle.fl_frame.proofs.ContentsInTurn.{OnlyReads-same, OnlyReads-read}
-use Rattle.fl_frame.proofs.ReadsInTurn.{no_reads}
-use Rattle.fl_ring.proofs.ReadsInTurn.{one_read, fewer_reads, header_fits}
+use Rattle.fl_frame.proofs.SingleReads.{one_read}
+use Rattle.fl_frame.proofs.ReadsInTurn.{none_read}
+use Rattle.fl_ring.proofs.ReadsInTurn.{header_fits}
 use Rattle.fl_index.specs.Page.{page_number}
 use Rattle.fl_index.proofs.ListingOn.{place-held}
 use Rattle.fl_index.proofs.Limits.{once-read, bytes-read}
@@ -23,7 +24,7 @@ pub number_in-requires : goal.number_in-requires
 number_in-requires g c = header_fits _ _ (ap (λ (l : List ℕ). length l) c.bytes.ensures ∙ (c.requires.room ∙ c.requires.lies.page)) c.args.ring.now.served.size
 
 pub returns-then-number_in-number-clause-reads : goal.returns-then-number_in-number-clause-reads
-returns-then-number_in-number-clause-reads g c = fewer_reads (g.F.Flash.state c.args.flash.now) (g.F.Flash.state c.args.flash.now) 0 1 (no_reads (g.F.Flash.state c.args.flash.now)) zero-le
+returns-then-number_in-number-clause-reads g c = none_read (g.F.Flash.state c.args.flash.now) 1
 
 pub returns-then-number_in-number-clause-counts : goal.returns-then-number_in-number-clause-counts
 returns-then-number_in-number-clause-counts g c = OnlyReads-same (g.F.Flash.state c.args.flash.now)

@@ -3,7 +3,8 @@ use Rattle.std.proofs.lemmas.Result.{err_from_is_err_and}
 use Rattle.fl_flash.specs.Buffer.{BufferState}
 use Rattle.fl_mark.specs.declared.page_state.PageState.{PageState}
 use Rattle.fl_index.specs.Page.{first_on, first_where, page_first}
-use Rattle.fl_ring.proofs.ReadsInTurn.{one_read, read_fails, mark_fits, header_fits}
+use Rattle.fl_frame.proofs.SingleReads.{one_read, read_fails}
+use Rattle.fl_ring.proofs.ReadsInTurn.{mark_fits, header_fits}
 use Rattle.fl_index.proofs.mount.read_first.Goals as goal
 
 pub read-requires-clause-exists : goal.read-requires-clause-exists

@@ -2,7 +2,7 @@ use Rattle.std.proofs.Common.{rules, ◌+◌, ◌-◌, ◌<◌, arith, refl, sym
 use Rattle.std.proofs.lemmas.Result.{err_from_is_err_and, IfErr-weaker}
 use Rattle.fl_index.specs.Memory.{oldest_in, next_in}
 use Rattle.fl_index.specs.Standing.{StandsBelow}
-use Rattle.fl_frame.proofs.ReadsInTurn.{more_reads, told_still}
+use Rattle.fl_frame.proofs.ReadsInTurn.{more_reads, told_still, none_read}
 use Rattle.fl_frame.specs.Reads.{OnlyReads}
 use Rattle.fl_ring.specs.Place.{next_of, oldest_of}
 use Rattle.fl_schema.specs.Schema.{layout_of}
@@ -10,7 +10,7 @@ use Rattle.fl_parts.specs.Coming.{AreRemembered}
 use Rattle.fl_parts.specs.KeptSteps.{FailsReading, HasCome, HasComeBy, IsRefusedFirst, KnowsListed}
 use Rattle.fl_parts.proofs.Firsts.{remembers-more}
 use Rattle.fl_parts.proofs.IndexRounds.{all-listed, at-end, begin-is, data-last, data-more, data-within, few-rows, few-seen, few-taken, index-more, index-within, le-behind, le-by, le-on, le-two, leaves-read, leaves-then, lt-by, none-before, nothing-is, page-next, page-passed, pages-before, pages-behind}
-use Rattle.fl_parts.proofs.KeptParts.{come-keeps, come-none, come-then, fails-then, keeps-none, keeps-then, may-still, reads-none, some-places}
+use Rattle.fl_parts.proofs.KeptParts.{come-keeps, come-none, come-then, fails-then, keeps-none, keeps-then, may-still, some-places}
 use Rattle.fl_parts.proofs.ListedPages.{HasPassed, any-ok, below-read, in-order, index-lies-read, passed-none}
 use Rattle.fl_parts.proofs.SparedReads.{ok-two}
 use Rattle.fl_parts.proofs.Untouched.{no-success}
@@ -27,7 +27,7 @@ loop-page-init g c =
       from = le-by _ _ begin;
       most = le-two _ _ _ (le-by _ _ (sym begin)) (in-order bitmaps);
       come = come-none ring c.oldest-number.result _ flash c.args.known.now (subst (λ n. HasCome ring n c.args.known.now) (sym number) c.requires.come);
-      leaves = record { same = record { geometry = refl; place = refl; bits = refl; full = refl }; running = refl; oldest = refl; next = refl; lies = c.requires.index_lies; reads = reads-none flash _ };
+      leaves = record { same = record { geometry = refl; place = refl; bits = refl; full = refl }; running = refl; oldest = refl; next = refl; lies = c.requires.index_lies; reads = none_read flash _ };
       keeps = keeps-none c.args.counts.now c.args.index.now c.args.buf.now c.requires.may.none;
       stands = λ first plan table told h. subst (λ k. StandsBelow k bitmaps flash first plan table) (sym begin) h;
       remembers = λ told number low high. absurd (none-before _ _ _ begin low high);

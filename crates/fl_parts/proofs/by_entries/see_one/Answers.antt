@@ -2,7 +2,7 @@ use Rattle.std.proofs.Common.{rules, ◌≡◌, ◌-◌, Option, Some, sym, ◌�
 use Rattle.std.specs.Prelude.{option_map}
 use Rattle.std.proofs.lemmas.Result.{err_from_is_err_and}
 use Rattle.fl_flash.specs.Flash.{page_at}
-use Rattle.fl_frame.proofs.ReadsInTurn.{no_reads}
+use Rattle.fl_frame.proofs.ReadsInTurn.{no_reads, none_read}
 use Rattle.fl_index.specs.Page.{full_view}
 use Rattle.fl_index.specs.declared.page.Full as code
 use Rattle.fl_ring.proofs.Exists.{page_exists}
@@ -11,7 +11,7 @@ use Rattle.fl_schema.specs.Schema.{layout_of}
 use Rattle.fl_parts.specs.ByEntries.{entry, mount_fault}
 use Rattle.fl_parts.specs.Knowing.{IsUnlisted}
 use Rattle.fl_parts.specs.declared.mount_fault.MountFault.{MountFault}
-use Rattle.fl_parts.proofs.KeptParts.{at-place, err-page, err-refused, few-read, few-rest, one-listed, one-read, reads-none, some-places}
+use Rattle.fl_parts.proofs.KeptParts.{at-place, err-page, err-refused, few-read, few-rest, one-listed, one-read, some-places}
 use Rattle.fl_parts.proofs.ListedPages.{any-ok}
 use Rattle.fl_parts.proofs.Untouched.{at-most, no-success}
 use Rattle.fl_parts.proofs.by_entries.see_one.Goals as goal
@@ -33,7 +33,7 @@ returns-in-Some-clause-come g c =
     any-ok c.see_entry.result (one-listed ring c.args.number (g.F.Flash.state c.args.flash.now) c.args.known.now c.see_entry.new.known come c.requires.before within)
 
 pub returns-in-Some-clause-reads : goal.returns-in-Some-clause-reads
-returns-in-Some-clause-reads g c = reads-none (g.F.Flash.state c.args.flash.now) 1
+returns-in-Some-clause-reads g c = none_read (g.F.Flash.state c.args.flash.now) 1
 
 pub returns-in-Some-clause-keeps : goal.returns-in-Some-clause-keeps
 returns-in-Some-clause-keeps g c = record { size = c.see_entry.ensures.size; error = c.see_entry.ensures.error; room = refl; none = c.requires.may.none }

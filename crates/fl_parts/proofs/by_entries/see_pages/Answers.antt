@@ -2,13 +2,13 @@ use Rattle.std.proofs.Common.{rules, ◌≡◌, ◌+◌, ◌-◌, ◌<◌, ◌�
 use Rattle.std.proofs.Math.Nat.{le_refl}
 use Rattle.std.proofs.lemmas.Result.{err_from_is_err_and}
 use Rattle.fl_frame.specs.Reads.{OnlyReads}
-use Rattle.fl_frame.proofs.ReadsInTurn.{told_still}
+use Rattle.fl_frame.proofs.ReadsInTurn.{told_still, none_read}
 use Rattle.fl_ring.specs.Place.{next_of}
 use Rattle.fl_schema.specs.Schema.{layout_of}
 use Rattle.fl_parts.specs.ByEntries.{unlisted_of}
 use Rattle.fl_parts.specs.KeptSteps.{HasComeBy}
 use Rattle.fl_parts.specs.Knowing.{KnowsWith}
-use Rattle.fl_parts.proofs.KeptParts.{come-none, come-then, fails-then, few-come, keeps-none, keeps-then, may-still, reads-none, reads-then}
+use Rattle.fl_parts.proofs.KeptParts.{come-none, come-then, fails-then, few-come, keeps-none, keeps-then, may-still, reads-then}
 use Rattle.fl_parts.proofs.MountProgress.{rows-still}
 use Rattle.fl_parts.proofs.PagesSeen.{is-next, one-more, seen-few, tells-next}
 use Rattle.fl_parts.proofs.Untouched.{no-success}
@@ -40,7 +40,7 @@ loop-number-init g c =
     record {
       from = le_refl c.args.from;
       come = come-none c.args.ring.now c.args.from _ old c.args.known.now c.requires.come;
-      reads = reads-none old _;
+      reads = none_read old _;
       keeps = keeps-none c.args.counts.now c.args.index.now c.args.buf.now c.requires.may.none;
       knows = λ error t k is h. (h, le_refl _);
     }

@@ -6,20 +6,20 @@ use Rattle.fl_find.specs.Index.{IndexOf}
 use Rattle.fl_flash.specs.Buffer.{BufferState}
 use Rattle.fl_flash.specs.Flash.{page_at}
 use Rattle.fl_ring.proofs.Exists.{page_exists}
-use Rattle.fl_frame.proofs.ReadsInTurn.{no_reads}
+use Rattle.fl_frame.proofs.ReadsInTurn.{no_reads, none_read}
 use Rattle.fl_schema.specs.Schema.{layout_of}
 use Rattle.fl_spline.specs.Points.{IsFurther}
 use Rattle.fl_parts.specs.ByEntries.{mount_fault}
 use Rattle.fl_parts.specs.Knowing.{KnowsWith, is_waiting}
 use Rattle.fl_parts.specs.declared.mount_fault.MountFault.{MountFault}
 use Rattle.fl_frame.specs.Reads.{OnlyReads}
+use Rattle.fl_frame.proofs.SingleReads.{one_read, read_fails}
 use Rattle.fl_parts.specs.declared.known.Known.{Known}
 use Rattle.fl_parts.specs.declared.known.Listed.{Listed}
 use Rattle.fl_parts.specs.declared.known.PageFacts.{PageFacts}
-use Rattle.fl_parts.proofs.KeptParts.{fails-refused, keeps-none, reads-none, some-places}
+use Rattle.fl_parts.proofs.KeptParts.{fails-refused, keeps-none, some-places}
 use Rattle.fl_parts.proofs.Newest.{found-refused, found-blamed, found-all}
 use Rattle.fl_parts.proofs.Refused.{page-page}
-use Rattle.fl_parts.proofs.SingleReads.{read-once, read-fails}
 use Rattle.fl_parts.proofs.Unlisted.{read-some}
 use Rattle.fl_parts.proofs.Untouched.{no-success}
 use Rattle.fl_parts.proofs.load.read_newest.Goals as goal
@@ -35,24 +35,24 @@ read-requires-clause-exists g c =
     page_exists c.args.ring.now (g.F.Flash.state c.args.flash.now) (g.F.Flash.state c.args.flash.now) 0 c.place_of.result c.requires.may.lies (no_reads (g.F.Flash.state c.args.flash.now)) c.place_of.ensures.within
 
 pub returns-in_err-read-clause-reads : goal.returns-in_err-read-clause-reads
-returns-in_err-read-clause-reads g c = subst (λ (o : Option Listed). OnlyReads (g.F.Flash.state c.args.flash.now) (is_waiting o) (g.F.Flash.state c.read.new.self)) (sym c.in-Some.is) (read-once _ _ _ _ _ _ c.read.ensures)
+returns-in_err-read-clause-reads g c = subst (λ (o : Option Listed). OnlyReads (g.F.Flash.state c.args.flash.now) (is_waiting o) (g.F.Flash.state c.read.new.self)) (sym c.in-Some.is) (one_read _ _ _ _ _ _ c.read.ensures)
 
 pub returns-in_err-page-clause-reads : goal.returns-in_err-page-clause-reads
-returns-in_err-page-clause-reads g c = subst (λ (o : Option Listed). OnlyReads (g.F.Flash.state c.args.flash.now) (is_waiting o) (g.F.Flash.state c.read.new.self)) (sym c.in-Some.is) (read-once _ _ _ _ _ _ c.read.ensures)
+returns-in_err-page-clause-reads g c = subst (λ (o : Option Listed). OnlyReads (g.F.Flash.state c.args.flash.now) (is_waiting o) (g.F.Flash.state c.read.new.self)) (sym c.in-Some.is) (one_read _ _ _ _ _ _ c.read.ensures)
 
 pub returns-in-Some-fault-clause-reads : goal.returns-in-Some-fault-clause-reads
-returns-in-Some-fault-clause-reads g c = subst (λ (o : Option Listed). OnlyReads (g.F.Flash.state c.args.flash.now) (is_waiting o) (g.F.Flash.state c.read.new.self)) (sym c.in-Some.is) (read-once _ _ _ _ _ _ c.read.ensures)
+returns-in-Some-fault-clause-reads g c = subst (λ (o : Option Listed). OnlyReads (g.F.Flash.state c.args.flash.now) (is_waiting o) (g.F.Flash.state c.read.new.self)) (sym c.in-Some.is) (one_read _ _ _ _ _ _ c.read.ensures)
 
 pub returns-in-Some-first-clause-reads : goal.returns-in-Some-first-clause-reads
-returns-in-Some-first-clause-reads g c = subst (λ (o : Option Listed). OnlyReads (g.F.Flash.state c.args.flash.now) (is_waiting o) (g.F.Flash.state c.read.new.self)) (sym c.in-Some.is) (read-once _ _ _ _ _ _ c.read.ensures)
+returns-in-Some-first-clause-reads g c = subst (λ (o : Option Listed). OnlyReads (g.F.Flash.state c.args.flash.now) (is_waiting o) (g.F.Flash.state c.read.new.self)) (sym c.in-Some.is) (one_read _ _ _ _ _ _ c.read.ensures)
 
 pub returns-in_default-first-clause-reads : goal.returns-in_default-first-clause-reads
-returns-in_default-first-clause-reads g c = subst (λ (o : Option Listed). OnlyReads (g.F.Flash.state c.args.flash.now) (is_waiting o) (g.F.Flash.state c.read.new.self)) (sym c.in-Some.is) (read-once _ _ _ _ _ _ c.read.ensures)
+returns-in_default-first-clause-reads g c = subst (λ (o : Option Listed). OnlyReads (g.F.Flash.state c.args.flash.now) (is_waiting o) (g.F.Flash.state c.read.new.self)) (sym c.in-Some.is) (one_read _ _ _ _ _ _ c.read.ensures)
 
 pub returns-in_err-read-clause-fails : goal.returns-in_err-read-clause-fails
 returns-in_err-read-clause-fails g c =
     let p = err_from_is_err_and c.from_residual.result c.from_residual.ensures.1 in
-    rw (p.1, p.2) (record { only = refl; fails = read-fails (g.F.Flash.state c.args.flash.now) (g.F.Flash.state c.read.new.self) c.place_of.result (length c.args.buf.now.bytes) c.in_err-read.field-0.0 c.read.new.into c.in_err-read.ensures })
+    rw (p.1, p.2) (record { only = refl; fails = read_fails (g.F.Flash.state c.args.flash.now) (g.F.Flash.state c.read.new.self) c.place_of.result (length c.args.buf.now.bytes) c.in_err-read.field-0.0 c.read.new.into c.in_err-read.ensures })
 
 pub returns-in_err-page-clause-fails : goal.returns-in_err-page-clause-fails
 returns-in_err-page-clause-fails g c =
@@ -114,7 +114,7 @@ returns-in_default-first-clause-knows g c = λ told few error t is h.
     absurd (c.in_default-first.not-Some some.0 (ensures.page.first ∙ some.1))
 
 pub returns-in_default-clause-reads : goal.returns-in_default-clause-reads
-returns-in_default-clause-reads g c = reads-none (g.F.Flash.state c.args.flash.now) _
+returns-in_default-clause-reads g c = none_read (g.F.Flash.state c.args.flash.now) _
 
 pub count_page-requires : goal.count_page-requires
 count_page-requires g c =

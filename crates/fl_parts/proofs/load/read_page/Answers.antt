@@ -1,6 +1,7 @@
 use Rattle.std.proofs.Common.{rules, arith, ◌≡◌, ◌≤◌, ℕ, List, Some, length, refl, ap, subst, ◌∙◌, sym}
 use Rattle.std.specs.Prelude.{IfOk}
 use Rattle.std.proofs.lemmas.Result.{err_from_is_err_and}
+use Rattle.fl_frame.proofs.SingleReads.{one_read, read_fails}
 use Rattle.fl_flash.specs.Buffer.{BufferState}
 use Rattle.fl_schema.specs.Schema.{layout_of}
 use Rattle.fl_parts.specs.ByEntries.{mount_fault}
@@ -9,7 +10,6 @@ use Rattle.fl_parts.specs.Knowing.{IsUnlisted}
 use Rattle.fl_parts.specs.declared.mount_fault.MountFault.{MountFault}
 use Rattle.fl_parts.proofs.KeptParts.{err-page, err-refused}
 use Rattle.fl_parts.proofs.ListedPages.{any-ok}
-use Rattle.fl_parts.proofs.SingleReads.{read-once, read-fails}
 use Rattle.fl_parts.proofs.Untouched.{no-success}
 use Rattle.fl_parts.proofs.load.read_page.Goals as goal
 
@@ -47,10 +47,10 @@ returns-clause-knows g c = λ told error t k n h is un.
     (saw.0, err-page (λ (e : MountFault). mount_fault t ≡ Some e) c.see_page-page.result saw.1)
 
 pub returns-clause-reads : goal.returns-clause-reads
-returns-clause-reads g c = read-once _ _ _ _ _ _ c.read.ensures
+returns-clause-reads g c = one_read _ _ _ _ _ _ c.read.ensures
 
 pub returns-in_err-read-clause-reads : goal.returns-in_err-read-clause-reads
-returns-in_err-read-clause-reads g c = read-once _ _ _ _ _ _ c.read.ensures
+returns-in_err-read-clause-reads g c = one_read _ _ _ _ _ _ c.read.ensures
 
 pub returns-in_err-read-clause-keeps : goal.returns-in_err-read-clause-keeps
 returns-in_err-read-clause-keeps g c = record { size = refl; error = refl; room = c.in_err-read.ensures.size_stays; none = c.in_err-read.ensures.none }
@@ -72,7 +72,7 @@ returns-in_err-read-clause-knows g c = λ told error t k n h is un.
 pub returns-in_err-read-clause-fails : goal.returns-in_err-read-clause-fails
 returns-in_err-read-clause-fails g c =
     let p = err_from_is_err_and c.from_residual.result c.from_residual.ensures.1 in
-    rw (p.1, p.2) (record { only = refl; fails = read-fails (g.F.Flash.state c.args.flash.now) (g.F.Flash.state c.read.new.self) c.args.at (length c.args.buf.now.bytes) c.in_err-read.field-0.0 c.read.new.into c.in_err-read.ensures })
+    rw (p.1, p.2) (record { only = refl; fails = read_fails (g.F.Flash.state c.args.flash.now) (g.F.Flash.state c.read.new.self) c.args.at (length c.args.buf.now.bytes) c.in_err-read.field-0.0 c.read.new.into c.in_err-read.ensures })
 
 pub see_page-page-requires : goal.see_page-page-requires
 see_page-page-requires g c =

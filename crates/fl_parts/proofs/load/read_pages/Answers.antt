@@ -9,11 +9,11 @@ use Rattle.fl_parts.specs.Knowing.{IsUnlisted, KnowsWith}
 use Rattle.fl_parts.specs.Reading.{pages_of, GatherUpTo, bitmap_on, full_on, AreGathered}
 use Rattle.fl_parts.proofs.FullEntries.{full-read}
 use Rattle.fl_parts.proofs.IndexOfTable.{plan-same, plan-then, ring-same, ring-then}
-use Rattle.fl_parts.proofs.KeptParts.{come-one, few-come, fails-then, keeps-none, keeps-then, may-still, reads-none, reads-then, some-places}
+use Rattle.fl_parts.proofs.KeptParts.{come-one, few-come, fails-then, keeps-none, keeps-then, may-still, reads-then, some-places}
 use Rattle.fl_parts.proofs.NotedEntries.{gathers-none, gather-first, gather-room, gathers-more, gather-more}
 use Rattle.fl_parts.proofs.PagesSeen.{all-seen, none-listed, one-more, unlisted-next}
 use Rattle.fl_ring.proofs.Exists.{page_exists}
-use Rattle.fl_frame.proofs.ReadsInTurn.{told_still, same_page}
+use Rattle.fl_frame.proofs.ReadsInTurn.{told_still, same_page, none_read}
 use Rattle.fl_parts.proofs.Untouched.{no-success}
 use Rattle.fl_parts.proofs.load.read_pages.Goals as goal
 
@@ -42,7 +42,7 @@ loop-number-init g c =
       from = le_refl c.args.from;
       come = c.requires.come;
       newest = le_refl _;
-      leaves = record { same = plan-same c.args.bitmaps.now; still = ring-same c.args.bitmaps.now; reads = reads-none old _ };
+      leaves = record { same = plan-same c.args.bitmaps.now; still = ring-same c.args.bitmaps.now; reads = none_read old _ };
       keeps = keeps-none c.args.counts.now c.args.index.now c.args.buf.now c.requires.may.none;
       gathered = gathers-none c.args.bitmaps.now c.args.from (next_of ring) c.args.from refl c.requires.bitmaps;
       waits = λ told. gather-first layout c.args.bitmaps.now c.args.from (next_of ring) c.args.from (pages_of ring old) refl c.requires.bitmaps;

@@ -5,7 +5,7 @@ use Rattle.fl_frame.proofs.ReadsInTurn.{was_on}
 use Rattle.fl_mark.specs.Mark.{state_of_page}
 use Rattle.fl_flash.specs.declared.flash.FlashFault.TheVariants.{PowerLost}
 use Rattle.fl_ring.proofs.Mounts.{err_as}
-use Rattle.fl_ring.proofs.ReadsInTurn.{one_read, read_fails}
+use Rattle.fl_frame.proofs.SingleReads.{one_read, read_fails}
 use Rattle.fl_ring.proofs.page_state.look.Goals as goal
 
 pub read-requires-clause-exists : goal.read-requires-clause-exists

@@ -5,8 +5,9 @@ use Rattle.fl_flash.specs.Flash.{page_at}
 use Rattle.fl_ring.specs.Place.{shape_of}
 use Rattle.fl_ring.proofs.ReadsInTurn.{fewer_reads}
 use Rattle.fl_rules.proofs.Breaks.{written_some, begun_for}
-use Rattle.fl_rules.proofs.OneMorePage.{none_read, some_more}
+use Rattle.fl_rules.proofs.OneMorePage.{some_more}
 use Rattle.std.proofs.lemmas.Option.{MatchOption-at_none}
+use Rattle.fl_frame.proofs.ReadsInTurn.{none_read}
 use Rattle.fl_rules.proofs.Rooms.{page_small, count_small, block_within}
 use Rattle.fl_rules.specs.States.{AreBlank}
 use Rattle.fl_rules.proofs.rule_2_state.check_head.Goals as goal

@@ -3,7 +3,7 @@ use Rattle.std.proofs.Math.Nat.{add-mul}
 use Rattle.std.proofs.lemmas.Bool.{cases_eq, true≢false}
 use Rattle.std.proofs.lemmas.Result.{err_from_is_err_and}
 use Rattle.fl_flash.specs.Flash.{page_at}
-use Rattle.fl_frame.proofs.ReadsInTurn.{more_reads}
+use Rattle.fl_frame.proofs.ReadsInTurn.{more_reads, none_read}
 use Rattle.fl_ring.specs.Front.{blanks}
 use Rattle.fl_ring.specs.Looking.{state_at}
 use Rattle.fl_ring.specs.Place.{shape_of}
@@ -11,7 +11,7 @@ use Rattle.fl_ring.specs.Ring.{Shape}
 use Rattle.fl_ring.proofs.Exists.{page_exists}
 use Rattle.fl_ring.proofs.ReadsInTurn.{fewer_reads, mark_fits}
 use Rattle.fl_rules.specs.States.{IsBlankAfter, AreBlank, page_after}
-use Rattle.fl_rules.proofs.OneMorePage.{none_read, one_read, read_fails, state_read, look_room}
+use Rattle.fl_rules.proofs.OneMorePage.{one_read, read_fails, state_read, look_room}
 use Rattle.fl_rules.proofs.rule_2_state.first_written.Goals as goal
 
 -- ---- the pages so far

@@ -9,7 +9,8 @@ use Rattle.fl_ring.specs.Ring.{room}
 use Rattle.fl_rules.proofs.NumbersOfRing.{all_for, misnumbered_for, numbers_for, too_great_for}
 use Rattle.std.proofs.lemmas.Result.{err_from_is_err_and}
 use Rattle.std.proofs.lemmas.Option.{MatchOption-at_some}
-use Rattle.fl_rules.proofs.OneMorePage.{none_read, some_back, few_back}
+use Rattle.fl_frame.proofs.ReadsInTurn.{none_read}
+use Rattle.fl_rules.proofs.OneMorePage.{some_back, few_back}
 use Rattle.fl_rules.proofs.rule_3_number.check_by.Goals as goal
 
 kept-within : {back kept room : ℕ} → back ≤ kept → kept < room → back ≤ room

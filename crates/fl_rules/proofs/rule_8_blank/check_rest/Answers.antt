@@ -3,8 +3,9 @@ use Rattle.std.proofs.Common.{inl, arith, ◌≡◌, ℕ, ◌+◌, ◌-◌, ◌<
 use Rattle.fl_ring.specs.Place.{shape_of}
 use Rattle.fl_ring.specs.Ring.{room}
 use Rattle.fl_ring.proofs.ReadsInTurn.{fewer_reads}
-use Rattle.fl_rules.proofs.OneMorePage.{none_read, under}
+use Rattle.fl_rules.proofs.OneMorePage.{under}
 use Rattle.std.proofs.lemmas.Option.{MatchOption-at_some, MatchOption-at_none}
+use Rattle.fl_frame.proofs.ReadsInTurn.{none_read}
 use Rattle.fl_flash.specs.Flash.{page_at}
 use Rattle.fl_rules.specs.States.{AreBlank, IsWritten}
 use Rattle.fl_rules.proofs.rule_8_blank.check_rest.Goals as goal

@@ -8,7 +8,7 @@ use Rattle.fl_flash.specs.Buffer.{BufferState}
 use Rattle.fl_flash.specs.Flash.{page_at}
 use Rattle.fl_flash.specs.Media.{next_count}
 use Rattle.fl_index.specs.Page.{page_number, IsGoodPage}
-use Rattle.fl_frame.proofs.ReadsInTurn.{same_page}
+use Rattle.fl_frame.proofs.ReadsInTurn.{same_page, none_read}
 use Rattle.fl_frame.proofs.ContentsInTurn.{OnlyReads-same}
 use Rattle.fl_index.specs.Looking.{looked_at, listing_of, entire, IsFound, IsFresh, IsHeld, IfRead}
 use Rattle.fl_index.specs.Memory.{is_waiting, found_waiting, first_waiting, listing_in, place_in}
@@ -16,7 +16,7 @@ use Rattle.fl_index.proofs.Scans.{memory-least, good-found, caused-none, bad-pag
 use Rattle.fl_index.proofs.LookupsOfTable.{X_is, waits-shows, none-shows, page-is, found-shows}
 use Rattle.fl_index.proofs.Held.{none-by}
 use Rattle.fl_index.proofs.Lookups.{some-of, none-of, read-any, listing-here, looked-here, kept-here, held-is, here-bytes, place-same, scans-on, ok-any}
-use Rattle.fl_index.proofs.LookupCalls.{header-fits, holds-good, unread-at-all, none-any, some-any, some-at, unread-never, none-waits, none-listed, no-ring-in, no-ring-by, from-memory, scan-stays}
+use Rattle.fl_index.proofs.LookupCalls.{header-fits, holds-good, none-any, some-any, some-at, unread-never, none-waits, none-listed, no-ring-in, no-ring-by, from-memory, scan-stays}
 use Rattle.fl_index.proofs.index.BitmapIndex.entry_of.Goals as goal
 
 pub returns-in-Some-clause-stands : goal.returns-in-Some-clause-stands
@@ -180,7 +180,7 @@ returns-in-Some-clause-least g c = λ first plan table from numbers told stands 
     memory-least t c.args.number from (g.F.Flash.state c.args.flash.now).work.reads numbers c.args.buf.now none scanning
 
 pub returns-in-Some-clause-reads : goal.returns-in-Some-clause-reads
-returns-in-Some-clause-reads g c = unread-at-all _
+returns-in-Some-clause-reads g c = none_read _ 1
 
 pub returns-in-Some-clause-counts : goal.returns-in-Some-clause-counts
 returns-in-Some-clause-counts g c = OnlyReads-same _
@@ -229,7 +229,7 @@ pub returns-in-Some-clause-good : goal.returns-in-Some-clause-good
 returns-in-Some-clause-good g c = λ good. good
 
 pub returns-in_default-listing-clause-reads : goal.returns-in_default-listing-clause-reads
-returns-in_default-listing-clause-reads g c = unread-at-all _
+returns-in_default-listing-clause-reads g c = none_read _ 1
 
 pub returns-in_default-listing-clause-counts : goal.returns-in_default-listing-clause-counts
 returns-in_default-listing-clause-counts g c = OnlyReads-same _
@@ -278,7 +278,7 @@ pub returns-in_default-listing-clause-good : goal.returns-in_default-listing-cla
 returns-in_default-listing-clause-good g c = λ good. good
 
 pub returns-in_default-ring-clause-reads : goal.returns-in_default-ring-clause-reads
-returns-in_default-ring-clause-reads g c = unread-at-all _
+returns-in_default-ring-clause-reads g c = none_read _ 1
 
 pub returns-in_default-ring-clause-counts : goal.returns-in_default-ring-clause-counts
 returns-in_default-ring-clause-counts g c = OnlyReads-same _

@@ -17,7 +17,7 @@ use Rattle.fl_flash.specs.declared.flash.FlashFault.TheVariants.{PowerLost}
 use Rattle.fl_base.specs.declared.types.Geometry.{Geometry}
 use Rattle.fl_frame.proofs.ReadsInTurn.{was_on}
 use Rattle.fl_ring.proofs.Mounts.{err_as}
-use Rattle.fl_ring.proofs.ReadsInTurn.{one_read, read_fails, read_once}
+use Rattle.fl_frame.proofs.SingleReads.{one_read, read_fails, read_once}
 use Rattle.fl_index.proofs.Limits.{none-left}
 use Rattle.fl_index.proofs.index.BitmapIndex.load.Goals as goal
 

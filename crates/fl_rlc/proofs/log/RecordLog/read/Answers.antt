@@ -1,9 +1,9 @@
 use Rattle.std.proofs.Common.{Option, is_some, sym, ◌∙◌, ap}
 use Rattle.std.proofs.lemmas.Bool.{true≢false}
+use Rattle.fl_frame.proofs.SingleReads.{one_read}
 use Rattle.fl_ring.specs.Ring.{Shape, place}
 use Rattle.fl_ring.specs.declared.ring.Ring.{Ring}
 use Rattle.fl_ring.proofs.Exists.{lies_exists}
-use Rattle.fl_parts.proofs.SingleReads.{read-once}
 use Rattle.fl_rlc.proofs.LogReads.{read-told, read-failed, read-powered}
 use Rattle.fl_rlc.proofs.log.RecordLog.read.Goals as goal
 
@@ -20,7 +20,7 @@ pub read-requires-clause-room : goal.read-requires-clause-room
 read-requires-clause-room g c = c.requires.room
 
 pub returns-clause-reads : goal.returns-clause-reads
-returns-clause-reads g c = read-once _ _ _ _ _ _ c.read.ensures
+returns-clause-reads g c = one_read _ _ _ _ _ _ c.read.ensures
 
 pub returns-clause-room : goal.returns-clause-room
 returns-clause-room g c = c.read.ensures.size_stays

@@ -50,7 +50,7 @@ mount-requires g c =
 
 pub returns-in-Err-clause-lie : goal.returns-in-Err-clause-lie
 returns-in-Err-clause-lie g c =
-    lie-with c.loop-i.self.entries.items c.loop-i.i c.index_mut.result.now c.mount.new.self (g.F.Flash.state c.loop-i.flash) (g.F.Flash.state c.mount.new.flash) (entry-at c.loop-i.self.entries.items c.loop-i.i c.index_mut.result.now (omega (arith, c.loop-i-test.true, c.len-i-end.ensures, c.args.self.now.entries.ok.0, c.loop-i.invariant.as_many)) c.index_mut.ensures.value) c.mount.ensures.goes c.loop-i.invariant.lie c.mount.ensures.lies
+    lie-with c.loop-i.self.entries.items c.loop-i.i c.index_mut.result.now c.mount.new.self (g.F.Flash.state c.loop-i.flash) (g.F.Flash.state c.mount.new.flash) (entry-at c.loop-i.self.entries.items c.loop-i.i c.index_mut.result.now (omega (arith, c.loop-i-test.true, c.len-i-end.ensures, c.args.self.now.entries.ok.0, c.loop-i.invariant.as_many)) c.index_mut.ensures.value) c.mount.ensures.flash.goes c.loop-i.invariant.lie c.mount.ensures.memory.lies
 
 pub returns-in-Err-clause-ends : goal.returns-in-Err-clause-ends
 returns-in-Err-clause-ends g c = λ plans tables rose device watched stand.
@@ -61,12 +61,12 @@ returns-in-Err-clause-ends g c = λ plans tables rose device watched stand.
     let p = c.mount.ensures in
     let here = entry-at c.loop-i.self.entries.items c.loop-i.i c.index_mut.result.now (omega (arith, c.loop-i-test.true, c.len-i-end.ensures, c.args.self.now.entries.ok.0, c.loop-i.invariant.as_many)) c.index_mut.ensures.value in
     let told : IsTrue m.media.tells = subst IsTrue (sym i.goes.tells) watched.told in
-    let so_far = (i.so_far plans tables rose device watched.told watched.on watched.counts stand (λ r. watched.risen (rose-front f.media.faults m.media.faults n.media.faults p.goes.faults r))).0 in
+    let so_far = (i.so_far plans tables rose device watched.told watched.on watched.counts stand (λ r. watched.risen (rose-front f.media.faults m.media.faults n.media.faults p.flash.goes.faults r))).0 in
     let sees : IsWatched m n rose so_far.now = record { told = told; on = so_far.power; risen = λ r. watched.risen (rose-back f.media.faults m.media.faults n.media.faults i.goes.faults r); counts = so_far.counts } in
-    let at = own plans tables rose device c.loop-i.i c.loop-i.self.entries.items c.index_mut.result.now c.mount.new.self m n so_far here p.goes p.same (p.outside told) in
-    let before = was plans tables rose device c.loop-i.i c.loop-i.self.entries.items c.index_mut.result.now c.mount.new.self m n so_far here p.goes p.same (p.outside told) in
-    let stands = stood plans tables rose device c.loop-i.i c.loop-i.self.entries.items c.index_mut.result.now c.mount.new.self m n so_far here p.goes p.same (p.outside told) in
-    mounted-err plans tables rose device c.loop-i.i c.loop-i.self.entries.items c.index_mut.result.now c.mount.new.self m n so_far here p.goes p.same (p.outside told) c.in-Err.fault
+    let at = own plans tables rose device c.loop-i.i c.loop-i.self.entries.items c.index_mut.result.now c.mount.new.self m n so_far here p.flash.goes p.memory.same (p.flash.outside told) in
+    let before = was plans tables rose device c.loop-i.i c.loop-i.self.entries.items c.index_mut.result.now c.mount.new.self m n so_far here p.flash.goes p.memory.same (p.flash.outside told) in
+    let stands = stood plans tables rose device c.loop-i.i c.loop-i.self.entries.items c.index_mut.result.now c.mount.new.self m n so_far here p.flash.goes p.memory.same (p.flash.outside told) in
+    mounted-err plans tables rose device c.loop-i.i c.loop-i.self.entries.items c.index_mut.result.now c.mount.new.self m n so_far here p.flash.goes p.memory.same (p.flash.outside told) c.in-Err.fault
     (c.in-Err.ensures.ends (first_of plans c.loop-i.i) at.plan before rose so_far.now sees stands.planned stands.on_flash)
 
 pub returns-in-Err-clause-limit : goal.returns-in-Err-clause-limit
@@ -78,22 +78,22 @@ returns-in-Err-clause-limit g c = λ plans tables rose device watched stand.
     let p = c.mount.ensures in
     let here = entry-at c.loop-i.self.entries.items c.loop-i.i c.index_mut.result.now (omega (arith, c.loop-i-test.true, c.len-i-end.ensures, c.args.self.now.entries.ok.0, c.loop-i.invariant.as_many)) c.index_mut.ensures.value in
     let told : IsTrue m.media.tells = subst IsTrue (sym i.goes.tells) watched.told in
-    let first = i.so_far plans tables rose device watched.told watched.on watched.counts stand (λ r. watched.risen (rose-front f.media.faults m.media.faults n.media.faults p.goes.faults r)) in
+    let first = i.so_far plans tables rose device watched.told watched.on watched.counts stand (λ r. watched.risen (rose-front f.media.faults m.media.faults n.media.faults p.flash.goes.faults r)) in
     let so_far = first.0 in
     let sees : IsWatched m n rose so_far.now = record { told = told; on = so_far.power; risen = λ r. watched.risen (rose-back f.media.faults m.media.faults n.media.faults i.goes.faults r); counts = so_far.counts } in
-    let at = own plans tables rose device c.loop-i.i c.loop-i.self.entries.items c.index_mut.result.now c.mount.new.self m n so_far here p.goes p.same (p.outside told) in
-    let before = was plans tables rose device c.loop-i.i c.loop-i.self.entries.items c.index_mut.result.now c.mount.new.self m n so_far here p.goes p.same (p.outside told) in
-    let stands = stood plans tables rose device c.loop-i.i c.loop-i.self.entries.items c.index_mut.result.now c.mount.new.self m n so_far here p.goes p.same (p.outside told) in
-    let here_was = was_at plans tables rose device c.loop-i.i c.loop-i.self.entries.items c.index_mut.result.now c.mount.new.self m n so_far here p.goes p.same (p.outside told) in
+    let at = own plans tables rose device c.loop-i.i c.loop-i.self.entries.items c.index_mut.result.now c.mount.new.self m n so_far here p.flash.goes p.memory.same (p.flash.outside told) in
+    let before = was plans tables rose device c.loop-i.i c.loop-i.self.entries.items c.index_mut.result.now c.mount.new.self m n so_far here p.flash.goes p.memory.same (p.flash.outside told) in
+    let stands = stood plans tables rose device c.loop-i.i c.loop-i.self.entries.items c.index_mut.result.now c.mount.new.self m n so_far here p.flash.goes p.memory.same (p.flash.outside told) in
+    let here_was = was_at plans tables rose device c.loop-i.i c.loop-i.self.entries.items c.index_mut.result.now c.mount.new.self m n so_far here p.flash.goes p.memory.same (p.flash.outside told) in
     limit-most plans tables (c.loop-i.i + 1) f n
-    (limit-more plans tables c.loop-i.i at.plan before c.index_mut.result.now.table (first_of plans c.loop-i.i) f m n at.plan_is here_was stands.planned first.1 (p.reads told)
+    (limit-more plans tables c.loop-i.i at.plan before c.index_mut.result.now.table (first_of plans c.loop-i.i) f m n at.plan_is here_was stands.planned first.1 (p.flash.reads told)
     (p.limit (first_of plans c.loop-i.i) at.plan before rose so_far.now sees stands.planned stands.on_flash))
 
 pub returns-in-Err-clause-stops : goal.returns-in-Err-clause-stops
 returns-in-Err-clause-stops g c =
     let here = entry-at c.loop-i.self.entries.items c.loop-i.i c.index_mut.result.now (omega (arith, c.loop-i-test.true, c.len-i-end.ensures, c.args.self.now.entries.ok.0, c.loop-i.invariant.as_many)) c.index_mut.ensures.value in
     stops-at c.args.self.now.entries.items c.loop-i.self.entries.items c.index_mut.result.now c.mount.new.self (record { at = c.loop-i.i; name = c.index.result.now.name; fault = c.in-Err.fault }) here
-    (name-after c.loop-i.self.entries.items c.loop-i.i c.index_mut.result.now c.mount.new.self c.index.result.now here c.index.ensures) c.in-Err.ensures.mounted
+    (name-after c.loop-i.self.entries.items c.loop-i.i c.index_mut.result.now c.mount.new.self c.index.result.now here c.index.ensures) c.in-Err.ensures.memory.mounted
     c.loop-i.invariant.running c.loop-i.invariant.ahead
 
 pub returns-in-Err-clause-refused : goal.returns-in-Err-clause-refused
@@ -113,20 +113,20 @@ pub returns-in-Err-clause-repairs : goal.returns-in-Err-clause-repairs
 returns-in-Err-clause-repairs g c =
     let i = c.loop-i.invariant in
     repairs-more c.args.self.now.entries.items c.loop-i.i c.index_mut.result.now (g.F.Flash.state c.args.flash.now) (g.F.Flash.state c.loop-i.flash) (g.F.Flash.state c.mount.new.flash)
-    (sym (i.ahead c.loop-i.i (omega arith)) ∙ (entry-at c.loop-i.self.entries.items c.loop-i.i c.index_mut.result.now (omega (arith, c.loop-i-test.true, c.len-i-end.ensures, c.args.self.now.entries.ok.0, c.loop-i.invariant.as_many)) c.index_mut.ensures.value)) i.repairs c.mount.ensures.repairs
+    (sym (i.ahead c.loop-i.i (omega arith)) ∙ (entry-at c.loop-i.self.entries.items c.loop-i.i c.index_mut.result.now (omega (arith, c.loop-i-test.true, c.len-i-end.ensures, c.args.self.now.entries.ok.0, c.loop-i.invariant.as_many)) c.index_mut.ensures.value)) i.repairs c.mount.ensures.flash.repairs
 
 pub returns-in-Err-clause-outside : goal.returns-in-Err-clause-outside
 returns-in-Err-clause-outside g c = λ told.
     let i = c.loop-i.invariant in
     outside-more c.args.self.now.entries.items c.loop-i.i c.index_mut.result.now (page_at (g.F.Flash.state c.args.flash.now)) (page_at (g.F.Flash.state c.loop-i.flash)) (page_at (g.F.Flash.state c.mount.new.flash))
-    (sym (i.ahead c.loop-i.i (omega arith)) ∙ (entry-at c.loop-i.self.entries.items c.loop-i.i c.index_mut.result.now (omega (arith, c.loop-i-test.true, c.len-i-end.ensures, c.args.self.now.entries.ok.0, c.loop-i.invariant.as_many)) c.index_mut.ensures.value)) (i.outside told) (c.mount.ensures.outside (subst IsTrue (sym i.goes.tells) told))
+    (sym (i.ahead c.loop-i.i (omega arith)) ∙ (entry-at c.loop-i.self.entries.items c.loop-i.i c.index_mut.result.now (omega (arith, c.loop-i-test.true, c.len-i-end.ensures, c.args.self.now.entries.ok.0, c.loop-i.invariant.as_many)) c.index_mut.ensures.value)) (i.outside told) (c.mount.ensures.flash.outside (subst IsTrue (sym i.goes.tells) told))
 
 pub returns-in-Err-clause-cause : goal.returns-in-Err-clause-cause
 returns-in-Err-clause-cause g c =
-    mount-cause-later (g.F.Flash.state c.args.flash.now) (g.F.Flash.state c.loop-i.flash) (g.F.Flash.state c.mount.new.flash) c.loop-i.invariant.goes c.loop-i.invariant.power c.in-Err.fault c.in-Err.ensures.cause
+    mount-cause-later (g.F.Flash.state c.args.flash.now) (g.F.Flash.state c.loop-i.flash) (g.F.Flash.state c.mount.new.flash) c.loop-i.invariant.goes c.loop-i.invariant.power c.in-Err.fault c.in-Err.ensures.flash.cause
 
 pub returns-in-Err-clause-goes : goal.returns-in-Err-clause-goes
-returns-in-Err-clause-goes g c = goes-then _ _ _ c.loop-i.invariant.goes c.mount.ensures.goes
+returns-in-Err-clause-goes g c = goes-then _ _ _ c.loop-i.invariant.goes c.mount.ensures.flash.goes
 
 pub loop-i-preserved : goal.loop-i-preserved
 loop-i-preserved g c =
@@ -138,41 +138,41 @@ loop-i-preserved g c =
     let here = entry-at c.loop-i.self.entries.items c.loop-i.i c.index_mut.result.now (omega (arith, c.loop-i-test.true, c.len-i-end.ensures, c.args.self.now.entries.ok.0, c.loop-i.invariant.as_many)) c.index_mut.ensures.value in
     let was_here : slice_get c.args.self.now.entries.items c.loop-i.i ≡ Some c.index_mut.result.now = sym (i.ahead c.loop-i.i (omega arith)) ∙ here in
     record {
-      lie = lie-with c.loop-i.self.entries.items c.loop-i.i c.index_mut.result.now c.mount.new.self m n here p.goes i.lie p.lies;
-      room = p.room ∙ (i.room ∙ ap (λ (x : Geometry). x.page) (sym p.goes.geometry));
-      same_room = p.room ∙ i.same_room;
+      lie = lie-with c.loop-i.self.entries.items c.loop-i.i c.index_mut.result.now c.mount.new.self m n here p.flash.goes i.lie p.memory.lies;
+      room = p.buffer.room ∙ (i.room ∙ ap (λ (x : Geometry). x.page) (sym p.flash.goes.geometry));
+      same_room = p.buffer.room ∙ i.same_room;
       as_many = length-set c.loop-i.self.entries.items c.loop-i.i (record { name = c.index_mut.result.now.name; table = c.mount.new.self }) ∙ i.as_many;
-      same = plans-with c.args.self.now.entries.items c.loop-i.self.entries.items c.loop-i.i c.index_mut.result.now c.mount.new.self here p.same i.same;
+      same = plans-with c.args.self.now.entries.items c.loop-i.self.entries.items c.loop-i.i c.index_mut.result.now c.mount.new.self here p.memory.same i.same;
       names = names-with c.args.self.now.entries.items c.loop-i.self.entries.items c.loop-i.i c.index_mut.result.now c.mount.new.self here i.names;
-      goes = goes-then f m n i.goes p.goes;
-      power = λ on. c.in_default.ensures.power (i.power on);
-      running = each-more (λ (t : LoggedTable 64 64). is_running t ≡ true) c.loop-i.self.entries.items c.loop-i.i c.index_mut.result.now c.mount.new.self here i.running c.in_default.ensures.mounted;
-      none = each-more (λ (t : LoggedTable 64 64). NothingWaits t) c.loop-i.self.entries.items c.loop-i.i c.index_mut.result.now c.mount.new.self here i.none c.in_default.ensures.empty;
+      goes = goes-then f m n i.goes p.flash.goes;
+      power = λ on. c.in_default.ensures.flash.power (i.power on);
+      running = each-more (λ (t : LoggedTable 64 64). is_running t ≡ true) c.loop-i.self.entries.items c.loop-i.i c.index_mut.result.now c.mount.new.self here i.running c.in_default.ensures.memory.mounted;
+      none = each-more (λ (t : LoggedTable 64 64). NothingWaits t) c.loop-i.self.entries.items c.loop-i.i c.index_mut.result.now c.mount.new.self here i.none c.in_default.ensures.memory.empty;
       ahead = λ j le. set-elsewhere c.loop-i.self.entries.items c.loop-i.i j (record { name = c.index_mut.result.now.name; table = c.mount.new.self }) (λ is. absurd (omega (arith, le, is))) ∙ i.ahead j (omega (arith, le));
-      reads = λ told. reads-more c.args.self.now.entries.items c.loop-i.i c.index_mut.result.now f m n was_here (i.reads told) (p.reads (subst IsTrue (sym i.goes.tells) told));
-      in_turn = λ told. turn-more c.loop-i.i c.args.self.now.entries.items c.loop-i.self.entries.items c.index_mut.result.now c.mount.new.self c.in_default.field-0 f m n was_here here p.same
+      reads = λ told. reads-more c.args.self.now.entries.items c.loop-i.i c.index_mut.result.now f m n was_here (i.reads told) (p.flash.reads (subst IsTrue (sym i.goes.tells) told));
+      in_turn = λ told. turn-more c.loop-i.i c.args.self.now.entries.items c.loop-i.self.entries.items c.index_mut.result.now c.mount.new.self c.in_default.field-0 f m n was_here here p.memory.same
           (c.in_default.ensures.found (subst IsTrue (sym i.goes.tells) told)) (i.in_turn told);
-      repairs = repairs-more c.args.self.now.entries.items c.loop-i.i c.index_mut.result.now f m n was_here i.repairs p.repairs;
-      outside = λ told. outside-more c.args.self.now.entries.items c.loop-i.i c.index_mut.result.now (page_at f) (page_at m) (page_at n) was_here (i.outside told) (p.outside (subst IsTrue (sym i.goes.tells) told));
+      repairs = repairs-more c.args.self.now.entries.items c.loop-i.i c.index_mut.result.now f m n was_here i.repairs p.flash.repairs;
+      outside = λ told. outside-more c.args.self.now.entries.items c.loop-i.i c.index_mut.result.now (page_at f) (page_at m) (page_at n) was_here (i.outside told) (p.flash.outside (subst IsTrue (sym i.goes.tells) told));
       leaves = λ told plans tables stand known.
-          left-next plans tables c.args.self.now.entries.items c.loop-i.i c.index_mut.result.now f m n stand was_here (i.leaves told plans tables stand (known-before c.args.self.now.entries.items f m n p.goes known))
+          left-next plans tables c.args.self.now.entries.items c.loop-i.i c.index_mut.result.now f m n stand was_here (i.leaves told plans tables stand (known-before c.args.self.now.entries.items f m n p.flash.goes known))
           (λ plan table. c.in_default.ensures.leaves (subst IsTrue (sym i.goes.tells) told) (first_of plans c.loop-i.i) plan table
           (known-there c.args.self.now.entries.items c.loop-i.i c.index_mut.result.now f m n was_here
           (λ rose device w.
-          let so_far = (i.so_far plans tables rose device w.told w.on w.counts stand (λ r. w.risen (rose-front f.media.faults m.media.faults n.media.faults p.goes.faults r))).0 in
+          let so_far = (i.so_far plans tables rose device w.told w.on w.counts stand (λ r. w.risen (rose-front f.media.faults m.media.faults n.media.faults p.flash.goes.faults r))).0 in
           (so_far.now, record { told = subst IsTrue (sym i.goes.tells) w.told; on = so_far.power; risen = λ r. w.risen (rose-back f.media.faults m.media.faults n.media.faults i.goes.faults r); counts = so_far.counts })) known));
       so_far = λ plans tables rose device told on counts stand risen.
           let told' : IsTrue m.media.tells = subst IsTrue (sym i.goes.tells) told in
-          let first = i.so_far plans tables rose device told on counts stand (λ r. risen (rose-front f.media.faults m.media.faults n.media.faults p.goes.faults r)) in
+          let first = i.so_far plans tables rose device told on counts stand (λ r. risen (rose-front f.media.faults m.media.faults n.media.faults p.flash.goes.faults r)) in
           let so_far = first.0 in
           let sees : IsWatched m n rose so_far.now = record { told = told'; on = so_far.power; risen = λ r. risen (rose-back f.media.faults m.media.faults n.media.faults i.goes.faults r); counts = so_far.counts } in
-          let at = own plans tables rose device c.loop-i.i c.loop-i.self.entries.items c.index_mut.result.now c.mount.new.self m n so_far here p.goes p.same (p.outside told') in
-          let before = was plans tables rose device c.loop-i.i c.loop-i.self.entries.items c.index_mut.result.now c.mount.new.self m n so_far here p.goes p.same (p.outside told') in
-          let stands = stood plans tables rose device c.loop-i.i c.loop-i.self.entries.items c.index_mut.result.now c.mount.new.self m n so_far here p.goes p.same (p.outside told') in
-          let here_was = was_at plans tables rose device c.loop-i.i c.loop-i.self.entries.items c.index_mut.result.now c.mount.new.self m n so_far here p.goes p.same (p.outside told') in (
-            mounted-more plans tables rose device c.loop-i.i c.loop-i.self.entries.items c.index_mut.result.now c.mount.new.self m n so_far here p.goes p.same (p.outside told') c.in_default.field-0
+          let at = own plans tables rose device c.loop-i.i c.loop-i.self.entries.items c.index_mut.result.now c.mount.new.self m n so_far here p.flash.goes p.memory.same (p.flash.outside told') in
+          let before = was plans tables rose device c.loop-i.i c.loop-i.self.entries.items c.index_mut.result.now c.mount.new.self m n so_far here p.flash.goes p.memory.same (p.flash.outside told') in
+          let stands = stood plans tables rose device c.loop-i.i c.loop-i.self.entries.items c.index_mut.result.now c.mount.new.self m n so_far here p.flash.goes p.memory.same (p.flash.outside told') in
+          let here_was = was_at plans tables rose device c.loop-i.i c.loop-i.self.entries.items c.index_mut.result.now c.mount.new.self m n so_far here p.flash.goes p.memory.same (p.flash.outside told') in (
+            mounted-more plans tables rose device c.loop-i.i c.loop-i.self.entries.items c.index_mut.result.now c.mount.new.self m n so_far here p.flash.goes p.memory.same (p.flash.outside told') c.in_default.field-0
                 (c.in_default.ensures.ends (first_of plans c.loop-i.i) at.plan before rose so_far.now sees stands.planned stands.on_flash),
-            limit-more plans tables c.loop-i.i at.plan before c.index_mut.result.now.table (first_of plans c.loop-i.i) f m n at.plan_is here_was stands.planned first.1 (p.reads told')
+            limit-more plans tables c.loop-i.i at.plan before c.index_mut.result.now.table (first_of plans c.loop-i.i) f m n at.plan_is here_was stands.planned first.1 (p.flash.reads told')
                 (p.limit (first_of plans c.loop-i.i) at.plan before rose so_far.now sees stands.planned stands.on_flash),
           );
     }
@@ -213,7 +213,7 @@ pub returns-in-Err-clause-reads : goal.returns-in-Err-clause-reads
 returns-in-Err-clause-reads g c = λ told.
     let i = c.loop-i.invariant in
     let more = reads-more c.args.self.now.entries.items c.loop-i.i c.index_mut.result.now (g.F.Flash.state c.args.flash.now) (g.F.Flash.state c.loop-i.flash) (g.F.Flash.state c.mount.new.flash)
-    (sym (i.ahead c.loop-i.i (omega arith)) ∙ (entry-at c.loop-i.self.entries.items c.loop-i.i c.index_mut.result.now (omega (arith, c.loop-i-test.true, c.len-i-end.ensures, c.args.self.now.entries.ok.0, c.loop-i.invariant.as_many)) c.index_mut.ensures.value)) (i.reads told) (c.mount.ensures.reads (subst IsTrue (sym i.goes.tells) told)) in
+    (sym (i.ahead c.loop-i.i (omega arith)) ∙ (entry-at c.loop-i.self.entries.items c.loop-i.i c.index_mut.result.now (omega (arith, c.loop-i-test.true, c.len-i-end.ensures, c.args.self.now.entries.ok.0, c.loop-i.invariant.as_many)) c.index_mut.ensures.value)) (i.reads told) (c.mount.ensures.flash.reads (subst IsTrue (sym i.goes.tells) told)) in
     reads-most c.args.self.now.entries.items (c.loop-i.i + 1) (g.F.Flash.state c.args.flash.now) (g.F.Flash.state c.mount.new.flash) more
 
 pub returns-clause-reads : goal.returns-clause-reads
@@ -227,7 +227,7 @@ returns-clause-power g c = c.loop-i.invariant.power
 
 pub returns-in-Err-clause-same : goal.returns-in-Err-clause-same
 returns-in-Err-clause-same g c =
-    plans-with c.args.self.now.entries.items c.loop-i.self.entries.items c.loop-i.i c.index_mut.result.now c.mount.new.self (entry-at c.loop-i.self.entries.items c.loop-i.i c.index_mut.result.now (omega (arith, c.loop-i-test.true, c.len-i-end.ensures, c.args.self.now.entries.ok.0, c.loop-i.invariant.as_many)) c.index_mut.ensures.value) c.mount.ensures.same c.loop-i.invariant.same
+    plans-with c.args.self.now.entries.items c.loop-i.self.entries.items c.loop-i.i c.index_mut.result.now c.mount.new.self (entry-at c.loop-i.self.entries.items c.loop-i.i c.index_mut.result.now (omega (arith, c.loop-i-test.true, c.len-i-end.ensures, c.args.self.now.entries.ok.0, c.loop-i.invariant.as_many)) c.index_mut.ensures.value) c.mount.ensures.memory.same c.loop-i.invariant.same
 
 pub returns-clause-same : goal.returns-clause-same
 returns-clause-same g c = c.loop-i.invariant.same

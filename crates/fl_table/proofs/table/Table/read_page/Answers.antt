@@ -10,6 +10,7 @@ use Rattle.fl_page.specs.declared.fault.BadPage as code
 use Rattle.fl_page.specs.declared.fault.ReadFault.TheVariants.{BadPage}
 use Rattle.fl_page.specs.Page.{IsGoodPage, bad_page}
 use Rattle.fl_frame.proofs.ContentsInTurn.{OnlyReads-read}
+use Rattle.fl_frame.proofs.SingleReads.{one_read}
 use Rattle.fl_page.proofs.ReadsInTurn.{IsCaused-read}
 use Rattle.fl_ring.specs.Place.{next_of}
 use Rattle.fl_ring.specs.declared.ring.Ring.{Ring}
@@ -18,7 +19,6 @@ use Rattle.fl_parts.specs.Kept.{IsFound}
 use Rattle.fl_table.specs.Look.{layout_in, place_of}
 use Rattle.fl_table.proofs.KeptRead.{ring-place, shows-rows}
 use Rattle.fl_table.proofs.MemoryTells.{oldest-is}
-use Rattle.fl_parts.proofs.SingleReads.{read-once}
 use Rattle.fl_parts.proofs.Sizes.{schema-fits, view-fits}
 use Rattle.fl_base.specs.declared.types.Geometry.{Geometry}
 use Rattle.fl_flash.specs.declared.flash.Work.{Work}
@@ -84,16 +84,16 @@ pub returns-in-Err-clause-cause : goal.returns-in-Err-clause-cause
 returns-in-Err-clause-cause g c = IsCaused-read _ _ _ _ (Err c.in-Err.fault) _ c.in-Err.ensures
 
 pub returns-in-Err-clause-reads : goal.returns-in-Err-clause-reads
-returns-in-Err-clause-reads g c = read-once _ _ _ _ _ _ c.read.ensures
+returns-in-Err-clause-reads g c = one_read _ _ _ _ _ _ c.read.ensures
 
 pub returns-in_default-state_of-clause-reads : goal.returns-in_default-state_of-clause-reads
-returns-in_default-state_of-clause-reads g c = read-once _ _ _ _ _ _ c.read.ensures
+returns-in_default-state_of-clause-reads g c = one_read _ _ _ _ _ _ c.read.ensures
 
 pub returns-in-Ok-clause-reads : goal.returns-in-Ok-clause-reads
-returns-in-Ok-clause-reads g c = read-once _ _ _ _ _ _ c.read.ensures
+returns-in-Ok-clause-reads g c = one_read _ _ _ _ _ _ c.read.ensures
 
 pub returns-in-Err-of-clause-reads : goal.returns-in-Err-of-clause-reads
-returns-in-Err-of-clause-reads g c = read-once _ _ _ _ _ _ c.read.ensures
+returns-in-Err-of-clause-reads g c = one_read _ _ _ _ _ _ c.read.ensures
 
 pub returns-in_default-state_of-clause-holds : goal.returns-in_default-state_of-clause-holds
 returns-in_default-state_of-clause-holds g c = c.in_default-read.ensures.holds ∙ ap Some (c.place_of.ensures.place ∙ sym (ring-place c.args.self.now c.in-Some.ring c.args.number c.in-Some.is))

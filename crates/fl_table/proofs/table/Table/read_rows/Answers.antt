@@ -20,6 +20,7 @@ use Rattle.fl_table.proofs.MountEnded.{mounting-of, ring-fails, ring-ends, ring-
 use Rattle.fl_table.proofs.MountKept.{kept-fails, kept-limit, kept-well, ring-limit}
 use Rattle.fl_parts.proofs.MountLimits.{rows-within}
 use Rattle.fl_table.proofs.MountReads.{kept-room}
+use Rattle.fl_table.proofs.PagesInTable.{few-in, knows-in, refused-in, waits-in}
 use Rattle.fl_table.proofs.RowsLeft.{leaves-read, leaves-ring}
 use Rattle.fl_table.proofs.SealAnswers.{lies-size, plan-self, planned-ring, written-back}
 use Rattle.fl_table.specs.Mounting.{comes_in}
@@ -134,20 +135,16 @@ read_kept-requires g c =
     let begin : length c.deref_mut.result.now ≡ t.place.blocks * t.geometry.block = ap length c.deref_mut.ensures.value ∙ (sym t.counts.ok.0 ∙ large) in
     let kept : IsTrue mid.media.tells → next_of c.in_ok-ring.ring - oldest_of c.in_ok-ring.ring ≤ t.place.blocks * t.geometry.block = λ told.
     kept-room t t old mid (plan-self t) c.requires.lies.geometry c.args.end c.in_ok-ring.ring mounts.found (subst IsTrue goes.tells told) in
-    let page : 24 ≤ t.geometry.page = omega (arith, t.served.page_least) in
     let end : c.args.end ≤ next_of c.in_ok-ring.ring = omega (arith, c.if-end-next.false, c.next_number-next.ensures) in
     let buffer = c.in_ok-ring.ensures.room ∙ (c.requires.room ∙ sym (ap (λ g. g.page) goes.geometry)) in (
       index-fits g.row.KNOTS g.row.SLOTS t.few_knots t.few_slots,
       (
         t.some_row,
         (
-          page,
+          mounts.lies,
           (
-            mounts.lies,
-            (
-              lies-goes t.bitmaps old mid goes c.requires.lies.bitmaps,
-              (c.requires.running, (c.requires.idle, (buffer, (c.in_ok-ring.ensures.holds, (begin ∙ sym (ap room shape), (λ told. omega (arith, begin, kept told), (end, c.requires.forgotten.index))))))),
-            ),
+            lies-goes t.bitmaps old mid goes c.requires.lies.bitmaps,
+            (c.requires.running, (c.requires.idle, (buffer, (c.in_ok-ring.ensures.holds, (begin ∙ sym (ap room shape), (λ told. omega (arith, begin, kept told), (end, c.requires.forgotten.index))))))),
           ),
         ),
       ),
@@ -162,11 +159,12 @@ returns-in_err-known-clause-ends g c = λ first plan table rose device watched p
     let ring = c.in_ok-ring.ring in
     let mounts = c.in_ok-ring.ensures.mounts in
     let kept = c.in_err-known.ensures in
+    let size = mounts.beside.goes.geometry ∙ c.requires.lies.geometry in
     let told = subst IsTrue (sym mounts.beside.goes.tells) watched.told in
     let p = err_from_is_err_and c.from_residual-in_err-known.result c.from_residual-in_err-known.ensures.1 in
     rw (p.1, p.2) (kept-fails t first plan table rose device old mid new ring _ c.args.end watched planned rests stands end c.requires.lies
     (g.met.F.Flash.reaches c.args.flash.now) (g.met.F.Flash.reaches c.mount.new.flash) (g.met.F.Flash.reaches c.read_kept.new.flash) mounts.beside.goes (mounts.beside.outside watched.told) mounts.shape mounts.ends kept.leaves.reads
-    _ c.in_err-known.field-0.0 kept.refused.only kept.refused.fails (kept.refused.refused told))
+    _ c.in_err-known.field-0.0 kept.refused.only kept.refused.fails (refused-in t ring mid size c.in_err-known.field-0.0 (kept.refused.refused told)))
 
 pub returns-in_err-known-clause-refused : goal.returns-in_err-known-clause-refused
 returns-in_err-known-clause-refused g c =
@@ -177,11 +175,12 @@ returns-in_err-known-clause-refused g c =
     let ring = c.in_ok-ring.ring in
     let mounts = c.in_ok-ring.ensures.mounts in
     let kept = c.in_err-known.ensures in
+    let size = mounts.beside.goes.geometry ∙ c.requires.lies.geometry in
     let p = err_from_is_err_and c.from_residual-in_err-known.result c.from_residual-in_err-known.ensures.1 in
     rw (p.1, p.2) (record {
       refused = λ told.
           refuses-page t t old mid new _ (plan-self t) c.requires.lies.geometry kept.leaves.reads t.bitmaps ring c.args.end mounts.found mounts.shape (omega (arith, c.if-end-next.false, c.next_number-next.ensures)) refl c.in_err-known.field-0.0
-          kept.refused.only kept.refused.fails (kept.refused.refused (subst IsTrue (sym mounts.beside.goes.tells) told));
+          kept.refused.only kept.refused.fails (refused-in t ring mid size c.in_err-known.field-0.0 (kept.refused.refused (subst IsTrue (sym mounts.beside.goes.tells) told)));
       cause = pages-cause old mid new mounts.beside.goes mounts.power c.in_err-known.field-0.0 kept.refused.only kept.refused.fails;
     })
 
@@ -208,10 +207,11 @@ returns-in_err-known-clause-limit g c = λ first plan table rose device watched 
     let ring = c.in_ok-ring.ring in
     let mounts = c.in_ok-ring.ensures.mounts in
     let kept = c.in_err-known.ensures in
+    let size = mounts.beside.goes.geometry ∙ c.requires.lies.geometry in
     let told = subst IsTrue (sym mounts.beside.goes.tells) watched.told in
     kept-limit t first plan table rose device old mid new ring _ c.args.end watched planned rests stands end c.requires.lies
     (g.met.F.Flash.reaches c.args.flash.now) (g.met.F.Flash.reaches c.mount.new.flash) (g.met.F.Flash.reaches c.read_kept.new.flash) mounts.beside.goes (mounts.beside.outside watched.told) mounts.shape mounts.ends kept.leaves.reads
-    full (ring-limit t first plan table old mid planned rests c.requires.lies (g.met.F.Flash.reaches c.args.flash.now) (λ s on. mounts.reads s watched.told on)) (kept.few_reads told)
+    full (ring-limit t first plan table old mid planned rests c.requires.lies (g.met.F.Flash.reaches c.args.flash.now) (λ s on. mounts.reads s watched.told on)) (few-in t ring mid size _ _ (kept.few_reads told))
 
 pub returns-clause-leaves : goal.returns-clause-leaves
 returns-clause-leaves g c =
@@ -236,10 +236,11 @@ returns-clause-limit g c = λ first plan table rose device watched planned rests
     let ring = c.in_ok-ring.ring in
     let mounts = c.in_ok-ring.ensures.mounts in
     let kept = c.in_ok-known.ensures in
+    let size = mounts.beside.goes.geometry ∙ c.requires.lies.geometry in
     let told = subst IsTrue (sym mounts.beside.goes.tells) watched.told in
     kept-limit t first plan table rose device old mid new ring _ c.args.end watched planned rests stands end c.requires.lies
     (g.met.F.Flash.reaches c.args.flash.now) (g.met.F.Flash.reaches c.mount.new.flash) (g.met.F.Flash.reaches c.read_kept.new.flash) mounts.beside.goes (mounts.beside.outside watched.told) mounts.shape mounts.ends kept.leaves.reads
-    full (ring-limit t first plan table old mid planned rests c.requires.lies (g.met.F.Flash.reaches c.args.flash.now) (λ s on. mounts.reads s watched.told on)) (kept.few_reads told)
+    full (ring-limit t first plan table old mid planned rests c.requires.lies (g.met.F.Flash.reaches c.args.flash.now) (λ s on. mounts.reads s watched.told on)) (few-in t ring mid size _ _ (kept.few_reads told))
 
 pub returns-in_err-known-clause-found : goal.returns-in_err-known-clause-found
 returns-in_err-known-clause-found g c = no-success _ _ c.from_residual-in_err-known.result c.from_residual-in_err-known.ensures.1
@@ -254,9 +255,10 @@ returns-clause-ends g c = λ first plan table rose device watched planned rests 
     let ring = c.in_ok-ring.ring in
     let mounts = c.in_ok-ring.ensures.mounts in
     let kept = c.in_ok-known.ensures in
+    let size = mounts.beside.goes.geometry ∙ c.requires.lies.geometry in
     let come = comes_in t t.bitmaps ring mid in
     let back = written-back t.counts.items c.read_kept.new.counts t.counts.len (kept.size ∙ ap length c.deref_mut.ensures.value) t.counts.ok.0 in
-    let known = λ (told : IsTrue mid.media.tells). subst (λ (cs : List ℕ). KnowsWith (error_in t.index) come come.index_pages come.pages c.in_ok-known.known cs c.read_kept.new.index) (sym back) (kept.knows told) in
+    let known = λ (told : IsTrue mid.media.tells). subst (λ (cs : List ℕ). KnowsWith (error_in t.index) come come.index_pages come.pages c.in_ok-known.known cs c.read_kept.new.index) (sym back) (knows-in t ring mid size (error_in t.index) c.in_ok-known.known c.read_kept.new.counts c.read_kept.new.index (kept.knows told)) in
     let told = subst IsTrue (sym mounts.beside.goes.tells) watched.told in
     let forgotten = c.requires.forgotten in
     let next : c.next_number-next.result ≡ next_of ring = c.next_number-next.ensures in
@@ -264,7 +266,7 @@ returns-clause-ends g c = λ first plan table rose device watched planned rests 
     rw (next, oldest) (kept-well t first plan table rose device old mid new ring _ c.args.end watched planned rests stands end c.requires.lies
     (g.met.F.Flash.reaches c.args.flash.now) (g.met.F.Flash.reaches c.mount.new.flash) (g.met.F.Flash.reaches c.read_kept.new.flash) mounts.beside.goes (mounts.beside.outside watched.told) mounts.shape mounts.ends kept.leaves.reads
     _ c.in_ok-known.known (record { geometry = refl; layout = refl; place = refl; buckets = refl; error = c.in_ok-known.ensures.error; bitmaps = c.in_ok-known.ensures.leaves.same; blobs = blobbing.plan-same t.blobs; limit = refl }) forgotten.empty forgotten.bits forgotten.ends refl refl
-    kept.found.counted (known told) (λ x h. kept.found.stands (first + plan.data_blocks) plan x told h) (kept.found.waits told))
+    kept.found.counted (known told) (λ x h. kept.found.stands (first + plan.data_blocks) plan x told h) (waits-in t ring mid size c.args.end (next_of ring) c.read_kept.new.bitmaps (kept.found.waits told)))
 
 pub returns-clause-found : goal.returns-clause-found
 returns-clause-found g c =
@@ -275,9 +277,10 @@ returns-clause-found g c =
     let ring = c.in_ok-ring.ring in
     let mounts = c.in_ok-ring.ensures.mounts in
     let kept = c.in_ok-known.ensures in
+    let size = mounts.beside.goes.geometry ∙ c.requires.lies.geometry in
     let come = comes_in t t.bitmaps ring mid in
     let back = written-back t.counts.items c.read_kept.new.counts t.counts.len (kept.size ∙ ap length c.deref_mut.ensures.value) t.counts.ok.0 in
-    let known = λ (told : IsTrue mid.media.tells). subst (λ (cs : List ℕ). KnowsWith (error_in t.index) come come.index_pages come.pages c.in_ok-known.known cs c.read_kept.new.index) (sym back) (kept.knows told) in
+    let known = λ (told : IsTrue mid.media.tells). subst (λ (cs : List ℕ). KnowsWith (error_in t.index) come come.index_pages come.pages c.in_ok-known.known cs c.read_kept.new.index) (sym back) (knows-in t ring mid size (error_in t.index) c.in_ok-known.known c.read_kept.new.counts c.read_kept.new.index (kept.knows told)) in
     let lies = c.requires.lies in
     let goes = mounts.beside.goes in
     let still = λ (told : IsTrue old.media.tells). subst IsTrue (sym goes.tells) told in
@@ -291,7 +294,7 @@ returns-clause-found g c =
       power = λ on. kept.leaves.reads.power ∙ mounts.power;
       found = λ told. finds-data t t old mid new _ (plan-self t) c.requires.lies.geometry kept.leaves.reads t.bitmaps ring c.args.end mounts.found mounts.shape within refl (error_in t.index) c.in_ok-known.known _ c.read_kept.new.index kept.found.counted (known (still told));
       learned = λ told. learns t t old mid new _ (plan-self t) c.requires.lies.geometry kept.leaves.reads t.bitmaps ring c.args.end mounts.found mounts.shape within refl (error_in t.index) c.in_ok-known.known _ c.read_kept.new.index kept.found.counted (known (still told));
-      waits = λ told. same-waits t t old mid new _ (plan-self t) c.requires.lies.geometry kept.leaves.reads t.bitmaps ring c.args.end mounts.found mounts.shape within refl c.args.end (next_of ring) c.read_kept.new.bitmaps (kept.found.waits (still told));
+      waits = λ told. same-waits t t old mid new _ (plan-self t) c.requires.lies.geometry kept.leaves.reads t.bitmaps ring c.args.end mounts.found mounts.shape within refl c.args.end (next_of ring) c.read_kept.new.bitmaps (waits-in t ring mid size c.args.end (next_of ring) c.read_kept.new.bitmaps (kept.found.waits (still told)));
       remembers = λ told.
           finds-firsts t t old mid new _ (plan-self t) c.requires.lies.geometry kept.leaves.reads t.bitmaps ring c.args.end mounts.found mounts.shape within refl (error_in t.index) c.in_ok-known.known _ c.read_kept.new.index c.read_kept.new.bitmaps kept.found.counted (known (still told))
           (c.requires.few told) (kept.found.remembers (still told));

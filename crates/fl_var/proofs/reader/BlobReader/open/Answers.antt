@@ -8,7 +8,7 @@ use Rattle.fl_var.proofs.Wholes.{pages-few}
 use Rattle.std.proofs.Math.Nat.{le_refl, le_trans, le_of_lt}
 use Rattle.std.proofs.lemmas.Bool.{false≢true, lt-ltb}
 use Rattle.fl_frame.proofs.ContentsInTurn.{OnlyReads-same}
-use Rattle.fl_var.proofs.PageLooks.{unread}
+use Rattle.fl_frame.proofs.ReadsInTurn.{none_read}
 use Rattle.fl_var.proofs.Readers.{least, none-and-some, no-slice, present-still, opens-err, same-ok, err-ok, no-more}
 use Rattle.fl_var.proofs.Lists.{not-none}
 use Rattle.fl_base.specs.declared.types.BlobRef.{BlobRef}
@@ -79,7 +79,7 @@ returns-in-Ok-Some-clause-opens g c = λ told.
     }
 
 pub returns-then-at-eq0-clause-reads : goal.returns-then-at-eq0-clause-reads
-returns-then-at-eq0-clause-reads g c = unread (g.F.Flash.state c.args.flash.now)
+returns-then-at-eq0-clause-reads g c = none_read (g.F.Flash.state c.args.flash.now) 1
 
 pub returns-then-at-eq0-clause-counts : goal.returns-then-at-eq0-clause-counts
 returns-then-at-eq0-clause-counts g c = OnlyReads-same (g.F.Flash.state c.args.flash.now)

@@ -5,10 +5,10 @@ use Rattle.fl_var.proofs.Wholes.{none-bad-any, steps-err}
 use Rattle.std.proofs.Math.Nat.{le_refl, le-add_right}
 use Rattle.std.proofs.lemmas.Bool.{false≢true, ltb-true}
 use Rattle.fl_frame.proofs.ContentsInTurn.{OnlyReads-same}
+use Rattle.fl_frame.proofs.ReadsInTurn.{none_read}
 use Rattle.fl_var.specs.Memory.{present, LiesOn}
 use Rattle.fl_var.specs.Reading.{pages_left}
 use Rattle.fl_var.specs.declared.var_data.VarData.{VarData}
-use Rattle.fl_var.proofs.PageLooks.{unread}
 use Rattle.fl_var.proofs.Readers.{more-none, more-some, no-slice, take-none, no-chunk}
 use Rattle.fl_var.proofs.Lists.{not-none}
 use Rattle.fl_var.proofs.reader.BlobReader.step.Goals as goal
@@ -71,7 +71,7 @@ pub returns-clause-most : goal.returns-clause-most
 returns-clause-most g c = λ reads whole. c.in_ok-turn.ensures.most (record { told = reads.told; within = reads.within; used = reads.used; size = reads.size; bytes = reads.bytes }) whole
 
 pub returns-then-self-eq0-clause-reads : goal.returns-then-self-eq0-clause-reads
-returns-then-self-eq0-clause-reads g c = unread (g.F.Flash.state c.args.flash.now)
+returns-then-self-eq0-clause-reads g c = none_read (g.F.Flash.state c.args.flash.now) 1
 
 pub returns-then-self-eq0-clause-counts : goal.returns-then-self-eq0-clause-counts
 returns-then-self-eq0-clause-counts g c = OnlyReads-same (g.F.Flash.state c.args.flash.now)

@@ -4,7 +4,7 @@ use Rattle.fl_page.specs.Header.{page_count}
 use Rattle.fl_var.specs.Blobs.{IsWhole, contents_from, AreThere}
 use Rattle.fl_var.specs.Content.{content_of, HasContent}
 use Rattle.fl_var.specs.Memory.{next_in, room_in, image_in, var_shape, present}
-use Rattle.fl_frame.proofs.ReadsInTurn.{same_page, told_still}
+use Rattle.fl_frame.proofs.ReadsInTurn.{same_page, told_still, none_read}
 use Rattle.fl_ring.specs.Ring.{place}
 use Rattle.fl_mark.specs.Mark.{state_of_page}
 use Rattle.fl_var.proofs.PageImages.{image-other}
@@ -17,7 +17,7 @@ use Rattle.std.proofs.Math.Nat.{le_refl, le-add_right}
 use Rattle.fl_frame.proofs.ContentsInTurn.{OnlyReads-same}
 use Rattle.fl_page.specs.Page.{bad_page}
 use Rattle.fl_var.specs.Reading.{pages_left}
-use Rattle.fl_var.proofs.PageLooks.{unread, page-headed}
+use Rattle.fl_var.proofs.PageLooks.{page-headed}
 use Rattle.fl_var.proofs.Readers.{least, some-left, no-more, all-given, not-further, present-still, one-more-read, ends-behind, uncommitted-bad, later-bad}
 use Rattle.fl_var.proofs.reader.BlobReader.turn.Goals as goal
 
@@ -174,7 +174,7 @@ returns-in_default-clause-ahead g c = λ reads bad ahead.
     bad-seen v f h (images-same v f h 1 c.find_content.ensures.reads) r.page (r.end + r.left) bad ahead
 
 pub returns-then-self-clause-reads : goal.returns-then-self-clause-reads
-returns-then-self-clause-reads g c = unread (g.F.Flash.state c.args.flash.now)
+returns-then-self-clause-reads g c = none_read (g.F.Flash.state c.args.flash.now) 1
 
 pub returns-then-self-clause-counts : goal.returns-then-self-clause-counts
 returns-then-self-clause-counts g c = OnlyReads-same (g.F.Flash.state c.args.flash.now)
@@ -210,7 +210,7 @@ pub returns-then-self-clause-ahead : goal.returns-then-self-clause-ahead
 returns-then-self-clause-ahead g c = λ reads bad ahead. ahead
 
 pub returns-then-self-next_number-clause-reads : goal.returns-then-self-next_number-clause-reads
-returns-then-self-next_number-clause-reads g c = unread (g.F.Flash.state c.args.flash.now)
+returns-then-self-next_number-clause-reads g c = none_read (g.F.Flash.state c.args.flash.now) 1
 
 pub returns-then-self-next_number-clause-counts : goal.returns-then-self-next_number-clause-counts
 returns-then-self-next_number-clause-counts g c = OnlyReads-same (g.F.Flash.state c.args.flash.now)

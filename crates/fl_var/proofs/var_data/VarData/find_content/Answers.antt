@@ -3,6 +3,8 @@ use Rattle.fl_var.specs.Memory.{waiting_in}
 use Rattle.fl_var.proofs.PageImages.{next-state, next-count, next-has, next-bad}
 use Rattle.fl_page.proofs.ReadsInTurn.{IsCaused-read}
 use Rattle.fl_frame.proofs.ContentsInTurn.{OnlyReads-read, OnlyReads-same}
+use Rattle.fl_frame.proofs.ReadsInTurn.{none_read}
+use Rattle.fl_frame.proofs.SingleReads.{one_read}
 use Rattle.std.specs.Option.{is_some}
 use Rattle.std.proofs.lemmas.Bool.{true≢false}
 use Rattle.fl_base.specs.declared.types.Geometry.{Geometry}
@@ -15,7 +17,7 @@ use Rattle.fl_mark.specs.declared.page_state.PageState.TheVariants.{Committed}
 use Rattle.fl_page.specs.Header.{page_count}
 use Rattle.fl_page.specs.Page.{bad_page}
 use Rattle.fl_var.specs.Content.{HasContent}
-use Rattle.fl_var.proofs.PageLooks.{unread, read-once, lies-later, before-next, not-behind, no-less, page-sized, next-within, page-within, bytes-page, bytes-image}
+use Rattle.fl_var.proofs.PageLooks.{lies-later, before-next, not-behind, no-less, page-sized, next-within, page-within, bytes-page, bytes-image}
 use Rattle.fl_var.proofs.Lists.{not-none}
 use Rattle.fl_var.proofs.var_data.VarData.find_content.Goals as goal
 
@@ -52,7 +54,7 @@ pub returns-in-Err-clause-fails : goal.returns-in-Err-clause-fails
 returns-in-Err-clause-fails g c = IsCaused-read _ _ _ _ (Err c.in-Err.fault) _ c.in-Err.ensures
 
 pub returns-then-len-eq0-clause-reads : goal.returns-then-len-eq0-clause-reads
-returns-then-len-eq0-clause-reads g c = unread (g.F.Flash.state c.args.flash.now)
+returns-then-len-eq0-clause-reads g c = none_read (g.F.Flash.state c.args.flash.now) 1
 
 pub returns-then-len-eq0-clause-counts : goal.returns-then-len-eq0-clause-counts
 returns-then-len-eq0-clause-counts g c = OnlyReads-same (g.F.Flash.state c.args.flash.now)
@@ -67,7 +69,7 @@ pub returns-then-len-eq0-clause-room : goal.returns-then-len-eq0-clause-room
 returns-then-len-eq0-clause-room g c = refl
 
 pub returns-then-number-next_number-clause-reads : goal.returns-then-number-next_number-clause-reads
-returns-then-number-next_number-clause-reads g c = unread (g.F.Flash.state c.args.flash.now)
+returns-then-number-next_number-clause-reads g c = none_read (g.F.Flash.state c.args.flash.now) 1
 
 pub returns-then-number-next_number-clause-counts : goal.returns-then-number-next_number-clause-counts
 returns-then-number-next_number-clause-counts g c = OnlyReads-same (g.F.Flash.state c.args.flash.now)
@@ -94,7 +96,7 @@ pub returns-then-number-next_number-clause-some : goal.returns-then-number-next_
 returns-then-number-next_number-clause-some g c = next-within c.args.self.now c.args.number _ c.args.buf.now.bytes (c.if-number-next_number.true ∙ c.next_number.ensures) (ap length c.content-len.ensures.content) c.if-len-eq0.false
 
 pub returns-in-Err-clause-reads : goal.returns-in-Err-clause-reads
-returns-in-Err-clause-reads g c = read-once _ _ _ _ _ _ c.read.ensures
+returns-in-Err-clause-reads g c = one_read _ _ _ _ _ _ c.read.ensures
 
 pub returns-in-Err-clause-pending : goal.returns-in-Err-clause-pending
 returns-in-Err-clause-pending g c = λ le. absurd (not-behind _ _ c.requires.within (λ e. c.if-number-next_number.false (e ∙ sym c.next_number.ensures)) le)
@@ -106,7 +108,7 @@ pub returns-in-Err-clause-room : goal.returns-in-Err-clause-room
 returns-in-Err-clause-room g c = c.read.ensures.size_stays
 
 pub returns-in-Ok-clause-reads : goal.returns-in-Ok-clause-reads
-returns-in-Ok-clause-reads g c = read-once _ _ _ _ _ _ c.read.ensures
+returns-in-Ok-clause-reads g c = one_read _ _ _ _ _ _ c.read.ensures
 
 pub returns-in-Ok-clause-pending : goal.returns-in-Ok-clause-pending
 returns-in-Ok-clause-pending g c = λ le. absurd (not-behind _ _ c.requires.within (λ e. c.if-number-next_number.false (e ∙ sym c.next_number.ensures)) le)
@@ -118,7 +120,7 @@ pub returns-in-Ok-clause-room : goal.returns-in-Ok-clause-room
 returns-in-Ok-clause-room g c = c.read.ensures.size_stays
 
 pub returns-in-Err-used_in-clause-reads : goal.returns-in-Err-used_in-clause-reads
-returns-in-Err-used_in-clause-reads g c = read-once _ _ _ _ _ _ c.read.ensures
+returns-in-Err-used_in-clause-reads g c = one_read _ _ _ _ _ _ c.read.ensures
 
 pub returns-in-Err-used_in-clause-pending : goal.returns-in-Err-used_in-clause-pending
 returns-in-Err-used_in-clause-pending g c = λ le. absurd (not-behind _ _ c.requires.within (λ e. c.if-number-next_number.false (e ∙ sym c.next_number.ensures)) le)

@@ -2,12 +2,12 @@ use Rattle.std.proofs.Common.{◌<◌, ◌≤◌, refl, sym, subst}
 use Rattle.std.proofs.lemmas.Option.{none-some}
 use Rattle.std.proofs.lemmas.Result.{err_from_is_err_and}
 use Rattle.fl_frame.proofs.ContentsInTurn.{OnlyReads-same}
-use Rattle.fl_var.proofs.PageLooks.{unread}
+use Rattle.fl_frame.proofs.ReadsInTurn.{none_read}
 use Rattle.fl_var.proofs.Readers.{gone-before, gone-uncommitted, not-gone, bad-behind, bad-first, bad-short}
 use Rattle.fl_var.proofs.var_data.VarData.find_first.Goals as goal
 
 pub returns-then-at-oldest-clause-reads : goal.returns-then-at-oldest-clause-reads
-returns-then-at-oldest-clause-reads g c = unread (g.F.Flash.state c.args.flash.now)
+returns-then-at-oldest-clause-reads g c = none_read (g.F.Flash.state c.args.flash.now) 1
 
 pub returns-then-at-oldest-clause-counts : goal.returns-then-at-oldest-clause-counts
 returns-then-at-oldest-clause-counts g c = OnlyReads-same (g.F.Flash.state c.args.flash.now)
@@ -22,7 +22,7 @@ pub returns-then-at-oldest-clause-room : goal.returns-then-at-oldest-clause-room
 returns-then-at-oldest-clause-room g c = refl
 
 pub returns-then-next_number-at-clause-reads : goal.returns-then-next_number-at-clause-reads
-returns-then-next_number-at-clause-reads g c = unread (g.F.Flash.state c.args.flash.now)
+returns-then-next_number-at-clause-reads g c = none_read (g.F.Flash.state c.args.flash.now) 1
 
 pub returns-then-next_number-at-clause-counts : goal.returns-then-next_number-at-clause-counts
 returns-then-next_number-at-clause-counts g c = OnlyReads-same (g.F.Flash.state c.args.flash.now)
