@@ -3,8 +3,8 @@ use Rattle.std.proofs.Common.{◌≡◌, ◌⊎◌, ℕ, ◌<◌, ◌^◌, Bool,
 use Rattle.std.specs.Bool.{OnTrue, OnFalse}
 use Rattle.std.proofs.lemmas.Bool.{OnTrue_from}
 use Rattle.std.proofs.lemmas.Result.{IfOk-weaker}
-use Rattle.fl_cursor.specs.Cursor.{mark_of, present_of, IsReady}
-use Rattle.fl_cursor.specs.Going.{Keeps, Goes, Fails}
+use Rattle.fl_cursor.specs.Cursor.{mark_of, present_of}
+use Rattle.fl_cursor.specs.Going.{Goes, Fails}
 use Rattle.fl_cursor.specs.declared.bookmark.Bookmark.{Bookmark}
 use Rattle.fl_cursor.specs.declared.cursor.Cursor.{Cursor}
 use Rattle.fl_frame.specs.Contents.{Contents}
@@ -61,16 +61,6 @@ pub moves-line : (blobs : Bool) (first : Bookmark) (old new : Cursor 64 64) (bef
 moves-line blobs first old new before contents reads reads_now (Ok true) goes fails over = over-more blobs first (mark_of old) (mark_of new) before over (present_of new) goes.notes.0 goes.notes.1
 moves-line blobs first old new before contents reads reads_now (Ok false) goes fails over = over-same blobs first (mark_of old) (mark_of new) before over goes.notes
 moves-line blobs first old new before contents reads reads_now (Err fault) goes fails over = over-same blobs first (mark_of old) (mark_of new) before over fails.notes
-
--- .. and holds the same table and the same references
-pub keeps-after : (old new : Cursor 64 64) (contents : Contents) (reads reads_now : ℕ) (result : Result Bool ReadFault) → IfOk result (λ more. Goes more contents reads old reads_now new) → OnErr result (Fails contents reads old reads_now new) → Keeps old new
-keeps-after old new contents reads reads_now (Ok more) goes fails = goes.keeps
-keeps-after old new contents reads reads_now (Err fault) goes fails = fails.keeps
-
-pub ready-after : (old new : Cursor 64 64) (contents : Contents) (reads reads_now : ℕ) (result : Result Bool ReadFault) → IfOk result (λ more. Goes more contents reads old reads_now new) → OnErr result (Fails contents reads old reads_now new) →
-    (held : Contents) → IsReady old held → IsReady new held
-ready-after old new contents reads reads_now (Ok more) goes fails = goes.ready
-ready-after old new contents reads reads_now (Err fault) goes fails = fails.ready
 
 -- ---- two inputs
 
