@@ -71,6 +71,7 @@ fn maybe_number(word: Option<&[u8]>) -> Result<Option<u64>, LineFault>
 }
 
 /// The numbers of a table line up to those of its rings.
+#[derive(Clone, Copy)]
 struct RingNumbers {
     key: u64,
     rows: u64,
@@ -90,6 +91,7 @@ fn ring_numbers(key: &[u8], rows: &[u8], index: &[u8], var: &[u8]) -> Result<Rin
 }
 
 /// The numbers behind those, but for the log's.
+#[derive(Clone, Copy)]
 struct LookupNumbers {
     bits: u64,
     base: i64,
@@ -142,30 +144,19 @@ pub(crate) fn table_line(words: &[&[u8]], room: &mut LineRoom) -> Result<Command
     let name = name(table)?;
     let log = log_word_in(others)?;
     room.copy(columns);
-    let RingNumbers {
-        key,
-        rows,
-        index,
-        var,
-    } = ring_numbers(key, rows, index, var)?;
-    let LookupNumbers {
-        bits,
-        base,
-        width,
-        error,
-        blob,
-    } = lookup_numbers(bits, base, width, error, blob)?;
+    let rings = ring_numbers(key, rows, index, var)?;
+    let lookup = lookup_numbers(bits, base, width, error, blob)?;
     Ok(Command::Table {
         name,
-        key,
-        rows,
-        index,
-        var,
-        bits,
-        base,
-        width,
-        error,
-        blob,
+        key: rings.key,
+        rows: rings.rows,
+        index: rings.index,
+        var: rings.var,
+        bits: lookup.bits,
+        base: lookup.base,
+        width: lookup.width,
+        error: lookup.error,
+        blob: lookup.blob,
         full: has_full_index(others),
         log: maybe_number(log)?,
     })

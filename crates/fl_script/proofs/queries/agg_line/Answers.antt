@@ -1,4 +1,4 @@
-use Rattle.std.proofs.Common.{refl, ap, ◌∙◌}
+use Rattle.std.proofs.Common.{sym, ap, ◌∙◌}
 use Rattle.fl_words.specs.Grammar as grammar
 use Rattle.fl_script.proofs.Few.{five, bad_range, word_at}
 use Rattle.fl_script.proofs.Steps.{with_form, on, stops, no_form, fails}
@@ -25,4 +25,6 @@ returns-in_err-number_in c =
     (ap grammar.agg_line (five c.args.words.now c.in-len5.len_at_least c.in-len5.len_below) ∙ with_form _ c.in_ok-name.ensures.0 ∙ on _ c.in_ok-key_range.ensures.0 ∙ on _ c.in_ok-key_range.ensures.1 ∙ on _ c.in_ok-number.ensures ∙ stops _ c.in_err-number_in.ensures.0)
 
 pub returns : goal.returns
-returns c = rw (five c.args.words.now c.in-len5.len_at_least c.in-len5.len_below, c.in_ok-name.ensures.0, c.in_ok-key_range.ensures.0, c.in_ok-key_range.ensures.1, c.in_ok-number.ensures, c.in_ok-number_in.ensures, c.in_ok-name.ensures.1) refl
+returns c =
+    rw c.in_ok-name.ensures.1
+    (sym (ap grammar.agg_line (five c.args.words.now c.in-len5.len_at_least c.in-len5.len_below) ∙ with_form _ c.in_ok-name.ensures.0 ∙ on _ c.in_ok-key_range.ensures.0 ∙ on _ c.in_ok-key_range.ensures.1 ∙ on _ c.in_ok-number.ensures ∙ on _ c.in_ok-number_in.ensures))
