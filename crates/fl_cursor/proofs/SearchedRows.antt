@@ -1,15 +1,23 @@
 -- One row more of those that are searched.
-use Rattle.std.proofs.Common.{◌≡◌, ℕ, ◌+◌, ◌≤◌, true, false, cond, Some, List, drop, ◌∙◌, ap, arith}
+use Rattle.std.proofs.Common.{◌≡◌, ℕ, ◌+◌, ◌≤◌, true, false, cond, Some, List, length, drop, sym, ◌∙◌, ap, subst, arith}
 use Rattle.std.specs.List.{slice_get}
-use Rattle.std.proofs.lemmas.List.{drop_all}
+use Rattle.std.proofs.lemmas.List.{drop_all, length-map}
 use Rattle.fl_model.specs.Query.{Cursor}
 use Rattle.fl_model.specs.Record.{RowLayout}
 use Rattle.fl_model.specs.Row.{Row}
 use Rattle.fl_page.specs.Page.{rows_from}
 use Rattle.fl_page.proofs.RowsFrom.{drop-row, length-rows_from}
+use Rattle.fl_schema.specs.Types.{column_of}
+use Rattle.fl_schema.specs.Schema.{types_of}
+use Rattle.fl_table.specs.Look.{layout_in}
+use Rattle.fl_table.specs.declared.table.Table.{Table}
 use Rattle.fl_cursor.specs.Asked.{is_left, is_last}
 use Rattle.fl_cursor.specs.Sought.{first_left}
 use Rattle.fl_cursor.specs.declared.search.Sought.TheVariants.{Row as At, Behind, Nowhere}
+
+-- rows that have this layout have a value
+pub some-columns : {KNOTS SLOTS : ℕ} (t : Table KNOTS SLOTS) (layout : RowLayout) → layout ≡ layout_in t → 1 ≤ length layout.columns
+some-columns t layout is = subst (λ (l : RowLayout). 1 ≤ length l.columns) (sym is) (subst (λ n. 1 ≤ n) (sym (length-map (types_of t.schema) column_of)) t.some_columns)
 
 -- the row at a place is searched first
 first-at : (asked : Cursor) (rows : List Row) (i : ℕ) (row : Row) → slice_get rows i ≡ Some row →

@@ -2,6 +2,7 @@ use Rattle.std.proofs.Common.{ℕ, Option, sym, ◌∙◌, ap, subst}
 use Rattle.fl_cursor.specs.Ends.{EndsPages}
 use Rattle.fl_cursor.specs.Sound.{pages_end}
 use Rattle.fl_cursor.proofs.BehindLastPage.{ends-by}
+use Rattle.fl_parts.proofs.Sizes.{table-fits}
 use Rattle.fl_cursor.proofs.bookmark.Bookmark.end_of_pages.Goals as goal
 
 pub returns-in-Some-clause-ends : goal.returns-in-Some-clause-ends
@@ -14,3 +15,9 @@ returns-in-Some-clause-exact g c = c.end_of_pages.ensures.exact ∙ ap (λ (top 
 
 pub returns-in-None-clause-exact : goal.returns-in-None-clause-exact
 returns-in-None-clause-exact g c = c.requires.next ∙ ap (λ (top : Option ℕ). pages_end c.args.table.now top) (sym c.in-None.is)
+
+pub returns-in-None-clause-ends : goal.returns-in-None-clause-ends
+returns-in-None-clause-ends g c = subst (λ (top : Option ℕ). EndsPages c.args.table.now top c.args.next) (sym c.in-None.is) c.requires.next
+
+pub end_of_pages-requires : goal.end_of_pages-requires
+end_of_pages-requires g c = table-fits g.row.KNOTS g.row.SLOTS c.args.table.now.few_knots c.args.table.now.few_slots

@@ -16,6 +16,7 @@ use Rattle.fl_cursor.specs.declared.place.Here.TheVariants.{PageRow}
 use Rattle.fl_cursor.specs.declared.place.Place.TheVariants.{InPage}
 use Rattle.fl_cursor.specs.declared.search.Sought.TheVariants.{Row as At, Behind, Nowhere}
 use Rattle.fl_cursor.proofs.InPage.{page-taken, page-behind, page-nowhere}
+use Rattle.fl_cursor.proofs.SearchedRows.{some-columns}
 use Rattle.fl_cursor.proofs.Walks.{found-within}
 use Rattle.fl_cursor.specs.Sound.{IsSoundAhead}
 use Rattle.fl_cursor.proofs.SoundPages.{sound-behind, sound-nowhere, sound-taken}
@@ -128,3 +129,6 @@ pub view-view-requires : goal.view-view-requires
 view-view-requires g c =
     let placed = subst (IsPlaced c.args.self.now.table.now c.args.self.now.rows_buf.now.bytes) c.in-InPage.is c.requires.placed in
     (table-fits g.row.KNOTS g.row.SLOTS c.args.self.now.table.now.few_knots c.args.self.now.table.now.few_slots, (placed.2, c.requires.short))
+
+pub first_in_page-requires-clause-columns : goal.first_in_page-requires-clause-columns
+first_in_page-requires-clause-columns g c = some-columns c.args.self.now.table.now _ c.view-view.ensures.layout
