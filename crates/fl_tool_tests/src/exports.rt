@@ -1,11 +1,13 @@
 // Exports of images made by hand: what is written, and how they end.
+ghost use Rattle.std.specs.Prelude.{◌≤◌};
+
+use crate::asserts::{same, same_at};
 use crate::checks::{Piece, SEAL, medium};
 use fl_base::{KeyRange, MemSink, Name, NoMemory};
 use fl_export::export_image;
 use fl_flash::MemMedia;
 use fl_image::ToolStatus;
 use std::alloc::Global;
-use std::test::Fail;
 
 // Pages of 128 bytes, four a block, and a ring of three blocks.
 const PLAIN: &str = "device 128 4\ntable t 8 i32 3 0 0 8 0 10 1 0\n";
@@ -67,25 +69,38 @@ pub(crate) fn export(
     Ok((status, out.bytes() == wanted.as_bytes()))
 }
 
-#[test]
-fn records_of_a_range(rt: HostRuntime) -> Result<(), Fail> {
-    let cases: [((u64, u64), &str); 5] = [
-        ((0, 2), "key,c1\n1,-25\n2,-5\n"),
-        ((0, u64::MAX), "key,c1\n1,-25\n2,-5\n3,0\n"),
-        ((3, 3), "key,c1\n3,0\n"),
-        ((4, 9), "key,c1\n"),
-        ((2, 1), "key,c1\n"),
-    ];
-    for (keys, wanted) in cases {
-        let mut media = medium(rt.alloc(), PLAIN, PLAIN_BYTES, &THREE)?;
-        let end = export(rt.alloc(), &mut media, b"t", keys, 100, wanted)?;
-        assert_eq!(rt; end, (ToolStatus::Done, true), "{wanted}");
-    }
-    Ok(())
+// .. of an image of such lines and pieces
+fn export_of(
+    alloc: Global,
+    image: (&str, u16, &[Piece<'_>]),
+    name: &[u8],
+    keys: (u64, u64),
+    room: usize,
+    wanted: &str,
+) -> Result<(ToolStatus, bool), NoMemory> {
+    let mut media = medium(alloc, image.0, image.1, image.2)?;
+    export(alloc, &mut media, name, keys, room, wanted)
 }
 
+const RANGES: &[((u64, u64), &str)] = &[
+    ((0, 2), "key,c1\n1,-25\n2,-5\n"),
+    ((0, u64::MAX), "key,c1\n1,-25\n2,-5\n3,0\n"),
+    ((3, 3), "key,c1\n3,0\n"),
+    ((4, 9), "key,c1\n"),
+    ((2, 1), "key,c1\n"),
+];
+
 #[test]
-fn blobs_are_told(rt: HostRuntime) -> Result<(), Fail> {
+fn records_of_a_range(rt: HostRuntime) {
+    let image = (PLAIN, PLAIN_BYTES, THREE.as_slice());
+    for (keys, wanted) in RANGES {
+        let end = export_of(rt.alloc(), image, b"t", *keys, 100, wanted);
+        same_at(&rt, &end, &Ok((ToolStatus::Done, true)), wanted);
+    }
+}
+
+// How an export of four rows and their blobs ends, and whether it writes so.
+fn export_blobs(alloc: Global, wanted: &str) -> Result<(ToolStatus, bool), NoMemory> {
     let pieces: [Piece<'_>; 11] = [
         (0, &blob_page(0, 1, 0xe7, [0xff; 10])),
         (56, &SEAL),
@@ -100,74 +115,104 @@ fn blobs_are_told(rt: HostRuntime) -> Result<(), Fail> {
         (440, &SEAL),
         (508, &SEAL),
     ];
-    let mut media = medium(rt.alloc(), WITH_BLOBS, BLOB_BYTES, &pieces)?;
+    let image = (WITH_BLOBS, BLOB_BYTES, pieces.as_slice());
+    export_of(alloc, image, b"t", (0, 9), 100, wanted)
+}
+
+#[test]
+fn blobs_are_told(rt: HostRuntime) {
     let text = "key,c1,blob\n1,-25,\n2,-5,00abff\n3,0,-\n4,7,gone\n";
-    let end = export(rt.alloc(), &mut media, b"t", (0, 9), 100, text)?;
-    assert_eq!(rt; end, (ToolStatus::Done, true));
-    Ok(())
+    same(
+        &rt,
+        &export_blobs(rt.alloc(), text),
+        &Ok((ToolStatus::Done, true)),
+    );
+}
+
+// The lines, bytes and pieces of an image, the name of a table, the room of the sink, and how the export ends.
+type Cause = (
+    &'static str,
+    u16,
+    &'static [Piece<'static>],
+    &'static [u8],
+    usize,
+    ToolStatus,
+);
+
+const CAUSES: &[Cause] = &[
+    (PLAIN, PLAIN_BYTES, &THREE, b"t", 100, ToolStatus::Done),
+    (PLAIN, PLAIN_BYTES, &THREE, b"t", 9, ToolStatus::OutWrite),
+    (PLAIN, PLAIN_BYTES, &THREE, b"s", 100, ToolStatus::NoTable),
+    (PLAIN, 1535, &THREE, b"t", 100, ToolStatus::NotImage),
+    ("device 128 4\n", 0, &[], b"t", 100, ToolStatus::NotImage),
+    // Number 5 doesn't stand at place 0.
+    (
+        PLAIN,
+        PLAIN_BYTES,
+        &[(0, &THREE_ROWS), (0, &[5]), (120, &SEAL)],
+        b"t",
+        100,
+        ToolStatus::BadImage { table: 0 },
+    ),
+    // Nor in the second table.
+    (
+        TWO,
+        TWO_BYTES,
+        &[
+            (0, &THREE_ROWS),
+            (120, &SEAL),
+            (1536, &THREE_ROWS),
+            (1536, &[5]),
+            (1656, &SEAL),
+        ],
+        b"t",
+        100,
+        ToolStatus::BadImage { table: 1 },
+    ),
+];
+
+// Whether an export ends for this cause.
+fn has_cause(alloc: Global, cause: &Cause) -> Result<bool, NoMemory> {
+    let (text, pages, pieces, name, room, wanted) = *cause;
+    let (status, _is_told) = export_of(alloc, (text, pages, pieces), name, (0, 9), room, "")?;
+    Ok(status == wanted)
 }
 
 #[test]
-fn statuses_have_their_causes(rt: HostRuntime) -> Result<(), Fail> {
-    let cases: [(&str, u16, &[Piece<'_>], &[u8], usize, ToolStatus); 7] = [
-        (PLAIN, PLAIN_BYTES, &THREE, b"t", 100, ToolStatus::Done),
-        (PLAIN, PLAIN_BYTES, &THREE, b"t", 9, ToolStatus::OutWrite),
-        (PLAIN, PLAIN_BYTES, &THREE, b"s", 100, ToolStatus::NoTable),
-        (PLAIN, 1535, &THREE, b"t", 100, ToolStatus::NotImage),
-        ("device 128 4\n", 0, &[], b"t", 100, ToolStatus::NotImage),
-        // Number 5 doesn't stand at place 0.
-        (
-            PLAIN,
-            PLAIN_BYTES,
-            &[(0, &THREE_ROWS), (0, &[5]), (120, &SEAL)],
-            b"t",
-            100,
-            ToolStatus::BadImage { table: 0 },
-        ),
-        // Nor in the second table.
-        (
-            TWO,
-            TWO_BYTES,
-            &[
-                (0, &THREE_ROWS),
-                (120, &SEAL),
-                (1536, &THREE_ROWS),
-                (1536, &[5]),
-                (1656, &SEAL),
-            ],
-            b"t",
-            100,
-            ToolStatus::BadImage { table: 1 },
-        ),
-    ];
-    for (text, pages, pieces, name, room, wanted) in cases {
-        let mut media = medium(rt.alloc(), text, pages, pieces)?;
-        let (status, _is_told) = export(rt.alloc(), &mut media, name, (0, 9), room, "")?;
-        assert_eq!(rt; status, wanted);
+fn statuses_have_their_causes(rt: HostRuntime) {
+    for i in 0..CAUSES.len() {
+        same_at(&rt, &has_cause(rt.alloc(), &CAUSES[i]), &Ok(true), &i);
     }
-    Ok(())
+}
+
+// How an export ends where this call of the medium fails, and whether it writes nothing.
+fn export_failing(alloc: Global, call: u64) -> Result<(ToolStatus, bool), NoMemory>
+    requires { 1 ≤ call }
+{
+    let mut media = medium(alloc, PLAIN, PLAIN_BYTES, &THREE)?;
+    media.fail_call(call);
+    export(alloc, &mut media, b"t", (0, 9), 100, "")
 }
 
 #[test]
-fn a_medium_that_fails_is_told(rt: HostRuntime) -> Result<(), Fail> {
+fn a_medium_that_fails_is_told(rt: HostRuntime) {
     // The first call reads the header, and the third is one of the mount.
-    for call in [1, 3] {
-        let mut media = medium(rt.alloc(), PLAIN, PLAIN_BYTES, &THREE)?;
-        media.fail_call(call);
-        let end = export(rt.alloc(), &mut media, b"t", (0, 9), 100, "")?;
-        assert_eq!(rt; end, (ToolStatus::Device, true), "{call}");
-    }
-    Ok(())
+    let end = Ok((ToolStatus::Device, true));
+    same(&rt, &export_failing(rt.alloc(), 1), &end);
+    same(&rt, &export_failing(rt.alloc(), 3), &end);
+}
+
+// How an export ends of an image on which a page was begun behind the first one, which is sealed, whether it writes so, and whether
+// the page has its void mark then.
+fn export_torn(alloc: Global, wanted: &str) -> Result<(ToolStatus, bool, bool), NoMemory> {
+    let pieces: [Piece<'_>; 3] = [(0, &THREE_ROWS), (120, &SEAL), (128, &[1])];
+    let mut media = medium(alloc, PLAIN, PLAIN_BYTES, &pieces)?;
+    let (status, is_told) = export(alloc, &mut media, b"t", (3, 9), 100, wanted)?;
+    Ok((status, is_told, media.bytes().get(1024 + 252) == Some(&0)))
 }
 
 #[test]
-fn a_torn_page_is_repaired(rt: HostRuntime) -> Result<(), Fail> {
-    // A page was begun behind the first one, which is sealed.
-    let pieces: [Piece<'_>; 3] = [(0, &THREE_ROWS), (120, &SEAL), (128, &[1])];
-    let mut media = medium(rt.alloc(), PLAIN, PLAIN_BYTES, &pieces)?;
-    let end = export(rt.alloc(), &mut media, b"t", (3, 9), 100, "key,c1\n3,0\n")?;
-    assert_eq!(rt; end, (ToolStatus::Done, true));
-    // Its void mark.
-    assert_eq!(rt; media.bytes().get(1024 + 252), Some(&0));
-    Ok(())
+fn a_torn_page_is_repaired(rt: HostRuntime) {
+    let end = export_torn(rt.alloc(), "key,c1\n3,0\n");
+    same(&rt, &end, &Ok((ToolStatus::Done, true, true)));
 }

@@ -1,6 +1,8 @@
 // An image whose index has full entries, and what a check says of it where a byte of an entry is another one.
+use crate::asserts::same_at;
 use crate::checks::{Piece, SEAL, blob_page, content_page, is_told};
-use std::test::Fail;
+use fl_base::NoMemory;
+use std::alloc::Global;
 
 // Pages of 64 bytes, two a block, and rings of three blocks: data pages 0 to 5, index pages 6 to 11, and those of the variable
 // data.
@@ -17,74 +19,80 @@ const SOUND: &str = "sound t rows 1 pages 2 voids 1\n";
 
 const MISENTERED: &str = "fault t index 6 6\n";
 
-// Each byte of the index page that is changed, what it becomes, and what a check says.
-#[test]
-fn each_field_is_compared(rt: HostRuntime) -> Result<(), Fail> {
-    let cases: [(u16, u8, &str); 15] = [
-        (16, 1, SOUND),
-        // The bitmap, and the first and the last byte of the first key.
-        (16, 3, MISENTERED),
-        (17, 2, MISENTERED),
-        (24, 1, MISENTERED),
-        // The count of rows, and one that is the same in its low byte.
-        (25, 2, MISENTERED),
-        (25, 0, MISENTERED),
-        (26, 1, MISENTERED),
-        // The end of the blobs, one less, one more, and one that is the same in its low byte.
-        (27, 0, MISENTERED),
-        (27, 2, MISENTERED),
-        (30, 1, MISENTERED),
-        // Each field of the entry of the void page.
-        (31, 1, MISENTERED),
-        (32, 1, MISENTERED),
-        (40, 1, MISENTERED),
-        (42, 1, MISENTERED),
-        (45, 1, MISENTERED),
-    ];
+// Whether a check writes so of the image with this byte at a place.
+fn is_told_with(alloc: Global, at: u16, byte: u8, wanted: &str) -> Result<bool, NoMemory> {
+    let changed = [byte];
     let row = blob_page(0, 0, 3);
     let content = content_page(0, 3);
-    for (at, byte, wanted) in cases {
-        let changed = [byte];
-        let pieces: [Piece<'_>; 8] = [
-            (0, &row),
-            (56, &SEAL),
-            (124, &SEAL),
-            (384, &LISTING),
-            (384 + at, &changed),
-            (440, &SEAL),
-            (768, &content),
-            (824, &SEAL),
-        ];
-        assert!(rt;
-            is_told(rt.alloc(), FULL, 1152, &pieces, wanted)?,
-            "{at} {byte}"
-        );
-    }
-    Ok(())
+    let pieces: [Piece<'_>; 8] = [
+        (0, &row),
+        (56, &SEAL),
+        (124, &SEAL),
+        (384, &LISTING),
+        (at, &changed),
+        (440, &SEAL),
+        (768, &content),
+        (824, &SEAL),
+    ];
+    is_told(alloc, FULL, 1152, &pieces, wanted)
 }
 
-// A row that was forged names the last page that there can be: no entry can tell where its blob ends.
+// Each byte of the index page that is changed, what it becomes, and what a check says.
+const FIELDS: &[(u16, u8, &str)] = &[
+    (384 + 16, 1, SOUND),
+    // The bitmap, and the first and the last byte of the first key.
+    (384 + 16, 3, MISENTERED),
+    (384 + 17, 2, MISENTERED),
+    (384 + 24, 1, MISENTERED),
+    // The count of rows, and one that is the same in its low byte.
+    (384 + 25, 2, MISENTERED),
+    (384 + 25, 0, MISENTERED),
+    (384 + 26, 1, MISENTERED),
+    // The end of the blobs, one less, one more, and one that is the same in its low byte.
+    (384 + 27, 0, MISENTERED),
+    (384 + 27, 2, MISENTERED),
+    (384 + 30, 1, MISENTERED),
+    // Each field of the entry of the void page.
+    (384 + 31, 1, MISENTERED),
+    (384 + 32, 1, MISENTERED),
+    (384 + 40, 1, MISENTERED),
+    (384 + 42, 1, MISENTERED),
+    (384 + 45, 1, MISENTERED),
+];
+
 #[test]
-fn an_end_that_fits_no_entry(rt: HostRuntime) -> Result<(), Fail> {
+fn each_field_is_compared(rt: HostRuntime) {
+    for case in FIELDS {
+        let (at, byte, wanted) = *case;
+        let told = is_told_with(rt.alloc(), at, byte, wanted);
+        same_at(&rt, &told, &Ok(true), case);
+    }
+}
+
+// Whether a check finds the entry bad whose blobs end at a page whose number has this byte four times, where the row is forged to name
+// the last page that there can be.
+fn is_misentered_with(alloc: Global, byte: u8) -> Result<bool, NoMemory> {
     let row = blob_page(0, 0, 3);
     let content = content_page(0, 3);
+    let end = [byte; 4];
+    let pieces: [Piece<'_>; 9] = [
+        (0, &row),
+        (28, &[255; 4]),
+        (56, &SEAL),
+        (124, &SEAL),
+        (384, &LISTING),
+        (411, &end),
+        (440, &SEAL),
+        (768, &content),
+        (824, &SEAL),
+    ];
+    is_told(alloc, FULL, 1152, &pieces, MISENTERED)
+}
+
+// No entry can tell where its blob ends.
+#[test]
+fn an_end_that_fits_no_entry(rt: HostRuntime) {
     for byte in [0, 1, 255] {
-        let end = [byte; 4];
-        let pieces: [Piece<'_>; 9] = [
-            (0, &row),
-            (28, &[255; 4]),
-            (56, &SEAL),
-            (124, &SEAL),
-            (384, &LISTING),
-            (411, &end),
-            (440, &SEAL),
-            (768, &content),
-            (824, &SEAL),
-        ];
-        assert!(rt;
-            is_told(rt.alloc(), FULL, 1152, &pieces, MISENTERED)?,
-            "{byte}"
-        );
+        same_at(&rt, &is_misentered_with(rt.alloc(), byte), &Ok(true), &byte);
     }
-    Ok(())
 }

@@ -1,4 +1,5 @@
 // Checks of an image of two tables, by a checker that says what it is told to.
+use crate::asserts::{same, same_at};
 use crate::checks::image;
 use fl_base::{MemSink, NoMemory, RingPlace};
 use fl_check::{CheckFault, Finding, RingFaults, RingName, Rule, TableFaults, TableRules};
@@ -7,7 +8,6 @@ use fl_image::ToolStatus;
 use fl_image_check::{CheckTable, check_all, check_image};
 use fl_plan::TableConfig;
 use std::alloc::Global;
-use std::test::Fail;
 
 const TEXT: &str =
     "device 128 4\ntable t 8 i32 3 0 0 8 0 10 1 0\ntable s 4 u8,i16 3 0 0 0 -5 1 0 0\n";
@@ -139,20 +139,22 @@ fn check_new(
 }
 
 #[test]
-fn lines_come_in_order(rt: HostRuntime) -> Result<(), Fail> {
-    let sound_first = "sound t rows 5 pages 2 voids 1\nfault s data 13 4\n";
-    for (first, second, text) in [
-        (SOUND, FAULT, sound_first),
-        (FAULT, SOUND, "fault t data 13 4\n"),
-    ] {
-        let said = (Some(first), Some(second), 100);
-        assert_eq!(rt;
-            check_new(rt.alloc(), PAGE_BYTES, said, text)?,
-            (ToolStatus::Unsound, true),
-            "{text}"
-        );
-    }
-    Ok(())
+fn lines_come_in_order(rt: HostRuntime) {
+    let unsound = Ok((ToolStatus::Unsound, true));
+    let said = (Some(SOUND), Some(FAULT), 100);
+    let text = "sound t rows 5 pages 2 voids 1\nfault s data 13 4\n";
+    same(
+        &rt,
+        &check_new(rt.alloc(), PAGE_BYTES, said, text),
+        &unsound,
+    );
+    let said = (Some(FAULT), Some(SOUND), 100);
+    let text = "fault t data 13 4\n";
+    same(
+        &rt,
+        &check_new(rt.alloc(), PAGE_BYTES, said, text),
+        &unsound,
+    );
 }
 
 // How a check of a new image by all rules ends, where the first table has faults, and whether it writes so.
@@ -168,32 +170,37 @@ fn check_by_rules(alloc: Global, wanted: &str) -> Result<(ToolStatus, bool), NoM
 }
 
 #[test]
-fn all_rules_are_told(rt: HostRuntime) -> Result<(), Fail> {
+fn all_rules_are_told(rt: HostRuntime) {
     let text =
         "fault t data 13 4 body\nfault t data 14 8 rest\nfault t log 40 5 keys\nsound s rows 5 pages 2 voids 1\n";
-    assert_eq!(rt;
-        check_by_rules(rt.alloc(), text)?,
-        (ToolStatus::Unsound, true)
+    same(
+        &rt,
+        &check_by_rules(rt.alloc(), text),
+        &Ok((ToolStatus::Unsound, true)),
     );
-    Ok(())
 }
 
 // The bytes in the pages, what is said of the second table where the first is sound, the room, and the status.
-const CAUSES: [(u16, Option<Finding>, usize, ToolStatus); 4] = [
+const CAUSES: &[(u16, Option<Finding>, usize, ToolStatus)] = &[
     (PAGE_BYTES, Some(SOUND), 100, ToolStatus::Done),
     (PAGE_BYTES, None, 100, ToolStatus::NoMemory),
     (PAGE_BYTES, Some(SOUND), 40, ToolStatus::OutWrite),
     (3073, Some(SOUND), 100, ToolStatus::NotImage),
 ];
 
+// The status of a check of a new image.
+fn status_of(alloc: Global, pages: u16, said: Said) -> Result<ToolStatus, NoMemory> {
+    let (status, _is_told) = check_new(alloc, pages, said, "")?;
+    Ok(status)
+}
+
 #[test]
-fn statuses_have_their_causes(rt: HostRuntime) -> Result<(), Fail> {
-    for (pages, second, room, wanted) in CAUSES {
-        let said = (Some(SOUND), second, room);
-        let (status, _is_told) = check_new(rt.alloc(), pages, said, "")?;
-        assert_eq!(rt; status, wanted, "{pages} {room}");
+fn statuses_have_their_causes(rt: HostRuntime) {
+    for cause in CAUSES {
+        let (pages, second, room, wanted) = *cause;
+        let status = status_of(rt.alloc(), pages, (Some(SOUND), second, room));
+        same_at(&rt, &status, &Ok(wanted), cause);
     }
-    Ok(())
 }
 
 // The status of a check whose medium fails at the first call.
@@ -205,7 +212,6 @@ fn status_failing(alloc: Global) -> Result<ToolStatus, NoMemory> {
 }
 
 #[test]
-fn a_medium_that_fails_is_told(rt: HostRuntime) -> Result<(), Fail> {
-    assert_eq!(rt; status_failing(rt.alloc())?, ToolStatus::Device);
-    Ok(())
+fn a_medium_that_fails_is_told(rt: HostRuntime) {
+    same(&rt, &status_failing(rt.alloc()), &Ok(ToolStatus::Device));
 }

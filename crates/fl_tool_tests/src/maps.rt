@@ -1,13 +1,13 @@
 // Maps of images made by hand: the states of pages, what rings tell, and a page that breaks a rule.
 ghost use Rattle.std.specs.Prelude.{◌≤◌};
 
-use crate::checks::{Piece, SEAL, image, medium};
+use crate::asserts::{same, same_at};
+use crate::checks::{Images, Piece, SEAL, image, medium};
 use fl_base::{MemSink, NoMemory};
 use fl_flash::MemMedia;
 use fl_image::ToolStatus;
 use fl_map::{Drawing, map_image};
 use std::alloc::Global;
-use std::test::Fail;
 
 // Pages of 64 bytes, two a block, and rings of three blocks: data pages 0 to 5, and index pages 6 to 11.
 const PLAIN: &str = "device 64 2\ntable t 8 i32 3 0 0 8 0 10 1 0\n";
@@ -86,98 +86,102 @@ fn is_map(
     )
 }
 
-#[test]
-fn letters(rt: HostRuntime) -> Result<(), Fail> {
-    let alloc = rt.alloc();
-    let cases: [(&[Piece<'_>], &str); 7] = [
-        (
-            &[],
-            "t data first none last none rows 0 waiting 0\n>.. .. ..\n",
-        ),
-        (
-            &[(0, &ROW), (56, &SEAL)],
-            "t data first 0 last 0 rows 1 waiting 0\n>#. .. ..\n",
-        ),
-        // The page was begun, or given up.
-        (
-            &[(0, &ROW)],
-            "t data first none last none rows 0 waiting 0\n>x. .. ..\n",
-        ),
-        (
-            &[(60, &SEAL)],
-            "t data first none last none rows 0 waiting 0\n>v. .. ..\n",
-        ),
-        // The block ahead waits for its erase.
-        (
-            &[(60, &SEAL), (124, &SEAL), (188, &SEAL), (256, &[0])],
-            "t data first none last none rows 0 waiting 1\n vv>v. x.\n",
-        ),
-        // A page tells more rows than it has room for.
-        (
-            &[(0, &ROW), (4, &[4]), (56, &SEAL)],
-            "t data first 0 last 0 rows 0 waiting 0\n>!. .. ..\nfault: t data page 0 rule 4\n",
-        ),
-        // Each block is full, so none is the head.
-        (
-            &[(124, &SEAL), (252, &SEAL), (380, &SEAL)],
-            "t data first none last none rows 0 waiting 0\n !v .v .v\nfault: t data page 0 rule 1\n",
-        ),
-    ];
-    for (pieces, wanted) in cases {
-        assert!(rt; is_map(alloc, PLAIN, 384, pieces, wanted)?, "{wanted}");
-    }
-    Ok(())
-}
+const LETTERS: Images = &[
+    (
+        &[],
+        "t data first none last none rows 0 waiting 0\n>.. .. ..\n",
+    ),
+    (
+        &[(0, &ROW), (56, &SEAL)],
+        "t data first 0 last 0 rows 1 waiting 0\n>#. .. ..\n",
+    ),
+    // The page was begun, or given up.
+    (
+        &[(0, &ROW)],
+        "t data first none last none rows 0 waiting 0\n>x. .. ..\n",
+    ),
+    (
+        &[(60, &SEAL)],
+        "t data first none last none rows 0 waiting 0\n>v. .. ..\n",
+    ),
+    // The block ahead waits for its erase.
+    (
+        &[(60, &SEAL), (124, &SEAL), (188, &SEAL), (256, &[0])],
+        "t data first none last none rows 0 waiting 1\n vv>v. x.\n",
+    ),
+    // A page tells more rows than it has room for.
+    (
+        &[(0, &ROW), (4, &[4]), (56, &SEAL)],
+        "t data first 0 last 0 rows 0 waiting 0\n>!. .. ..\nfault: t data page 0 rule 4\n",
+    ),
+    // Each block is full, so none is the head.
+    (
+        &[(124, &SEAL), (252, &SEAL), (380, &SEAL)],
+        "t data first none last none rows 0 waiting 0\n !v .v .v\nfault: t data page 0 rule 1\n",
+    ),
+];
 
 #[test]
-fn rings_of_a_table(rt: HostRuntime) -> Result<(), Fail> {
-    let alloc = rt.alloc();
+fn letters(rt: HostRuntime) {
+    for (pieces, wanted) in LETTERS {
+        same_at(
+            &rt,
+            &is_map(rt.alloc(), PLAIN, 384, pieces, wanted),
+            &Ok(true),
+            wanted,
+        );
+    }
+}
+
+const ONE_ROW: &[Piece<'static>] = &[(0, &ROW), (56, &SEAL)];
+
+#[test]
+fn rings_of_a_table(rt: HostRuntime) {
     let wanted =
         "t data first 0 last 0 rows 1 waiting 0\n>#. .. ..\nt index first none last none waiting 0\n>.. .. ..\n";
-    let pieces: [Piece<'_>; 2] = [(0, &ROW), (56, &SEAL)];
-    assert!(rt; is_map(alloc, INDEXED, 768, &pieces, wanted)?);
-    Ok(())
-}
-
-#[test]
-fn squares(rt: HostRuntime) -> Result<(), Fail> {
-    let alloc = rt.alloc();
-    let bytes = image(alloc, PLAIN, 384, &[(0, &ROW), (56, &SEAL)])?;
-    let none = Vec::new(alloc);
-    assert!(rt;
-        is_drawn(
-            alloc,
-            Drawing::Svg,
-            bytes,
-            none,
-            ToolStatus::Done,
-            PICTURE.as_bytes()
-        )?
+    same(
+        &rt,
+        &is_map(rt.alloc(), INDEXED, 768, ONE_ROW, wanted),
+        &Ok(true),
     );
-    Ok(())
 }
 
-// An empty file, noise, and the header of another length.
+// Whether this is the picture of an image with one row.
+fn is_picture(alloc: Global, wanted: &[u8]) -> Result<bool, NoMemory> {
+    let bytes = image(alloc, PLAIN, 384, ONE_ROW)?;
+    let none = Vec::new(alloc);
+    is_drawn(alloc, Drawing::Svg, bytes, none, ToolStatus::Done, wanted)
+}
+
 #[test]
-fn no_images(rt: HostRuntime) -> Result<(), Fail> {
-    let alloc = rt.alloc();
-    let images = [
-        Vec::new(alloc),
-        vec![in alloc; 0xa5; 4096]?,
-        image(alloc, PLAIN, 383, &[])?,
-    ];
-    for bytes in images {
-        let none = Vec::new(alloc);
-        assert!(rt; is_drawn(alloc, Drawing::Text, bytes, none, ToolStatus::NotImage, b"")?);
-    }
-    Ok(())
+fn squares(rt: HostRuntime) {
+    same(&rt, &is_picture(rt.alloc(), PICTURE.as_bytes()), &Ok(true));
+}
+
+// Whether no map is drawn of these bytes.
+fn is_no_image(alloc: Global, bytes: Vec<u8>) -> Result<bool, NoMemory> {
+    let none = Vec::new(alloc);
+    is_drawn(alloc, Drawing::Text, bytes, none, ToolStatus::NotImage, b"")
+}
+
+// .. of an empty file, of noise, and of an image of another length than its header tells
+fn are_no_images(alloc: Global) -> Result<[bool; 3], NoMemory> {
+    let nothing = is_no_image(alloc, Vec::new(alloc))?;
+    let noise = is_no_image(alloc, vec![in alloc; 0xa5; 4096]?)?;
+    let short = is_no_image(alloc, image(alloc, PLAIN, 383, &[])?)?;
+    Ok([nothing, noise, short])
+}
+
+#[test]
+fn no_images(rt: HostRuntime) {
+    same(&rt, &are_no_images(rt.alloc()), &Ok([true; 3]));
 }
 
 // How a map ends whose medium fails at this call, and how much it writes.
 fn map_failing(alloc: Global, call: u64) -> Result<(ToolStatus, usize), NoMemory>
     requires { 1 ≤ call }
 {
-    let mut media = medium(alloc, PLAIN, 384, &[(0, &ROW), (56, &SEAL)])?;
+    let mut media = medium(alloc, PLAIN, 384, ONE_ROW)?;
     media.fail_call(call);
     let mut out = MemSink::new(alloc, 8192, Vec::new(alloc))?;
     let status = map_image(alloc, Drawing::Text, &mut media, &mut out);
@@ -186,33 +190,33 @@ fn map_failing(alloc: Global, call: u64) -> Result<(ToolStatus, usize), NoMemory
 
 // A medium that fails in any of its calls leaves nothing written.
 #[test]
-fn a_medium_that_fails(rt: HostRuntime) -> Result<(), Fail> {
+fn a_medium_that_fails(rt: HostRuntime) {
     for call in 1..12 {
-        assert_eq!(rt;
-            map_failing(rt.alloc(), call)?,
-            (ToolStatus::Device, 0),
-            "{call}"
+        same_at(
+            &rt,
+            &map_failing(rt.alloc(), call),
+            &Ok((ToolStatus::Device, 0)),
+            &call,
         );
     }
-    Ok(())
 }
 
 // A sink that fails at its second write keeps what stood before it.
-#[test]
-fn a_sink_that_fails(rt: HostRuntime) -> Result<(), Fail> {
-    let alloc = rt.alloc();
+fn is_cut_off(alloc: Global, wanted: &[u8]) -> Result<bool, NoMemory> {
     let bytes = image(alloc, PLAIN, 384, &[])?;
     let second = vec![in alloc; 2]?;
+    is_drawn(
+        alloc,
+        Drawing::Text,
+        bytes,
+        second,
+        ToolStatus::OutWrite,
+        wanted,
+    )
+}
+
+#[test]
+fn a_sink_that_fails(rt: HostRuntime) {
     let wanted = b"t data first none last none rows 0 waiting 0\n>.. .. ..\n";
-    assert!(rt;
-        is_drawn(
-            alloc,
-            Drawing::Text,
-            bytes,
-            second,
-            ToolStatus::OutWrite,
-            wanted
-        )?
-    );
-    Ok(())
+    same(&rt, &is_cut_off(rt.alloc(), wanted), &Ok(true));
 }

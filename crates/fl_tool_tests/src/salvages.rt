@@ -1,11 +1,11 @@
 // Salvages of damaged images made by hand: what is written, and which pages are passed over.
+use crate::asserts::{same, same_at};
 use crate::checks::{Piece, SEAL, image};
 use fl_base::{MemSink, MemSource, Name, NoMemory};
 use fl_flash::MemMedia;
 use fl_image::ToolStatus;
 use fl_salvage::{PassedOver, SalvageEnd, salvage_image};
 use std::alloc::Global;
-use std::test::Fail;
 
 // Pages of 64 bytes, two a block, and a ring of three blocks: data pages 0 to 5.
 const PLAIN: &str = "device 64 2\ntable t 8 i32 3 0 0 8 0 10 1 0\n";
@@ -70,9 +70,8 @@ fn done(passed_over: PassedOver) -> SalvageEnd {
     }
 }
 
-#[test]
-fn pages_come_in_the_order_of_their_numbers(rt: HostRuntime) -> Result<(), Fail> {
-    // Pages 6, 7, 2 and 3 at the places of their numbers; the block behind them lacks all of its bytes.
+// Pages 6, 7, 2 and 3 at the places of their numbers; the block behind them lacks all of its bytes.
+fn cut_short(alloc: Global) -> Result<Vec<u8>, NoMemory> {
     let pieces: [Piece<'_>; 8] = [
         (0, &page(6, 1, 60)),
         (56, &SEAL),
@@ -83,20 +82,29 @@ fn pages_come_in_the_order_of_their_numbers(rt: HostRuntime) -> Result<(), Fail>
         (192, &page(3, 1, 30)),
         (248, &SEAL),
     ];
-    let mut bytes = image(rt.alloc(), PLAIN, PLAIN_BYTES, &pieces)?;
+    let mut bytes = image(alloc, PLAIN, PLAIN_BYTES, &pieces)?;
     bytes.truncate(1024 + 300);
-    let passed = PassedOver { missing: 2, ..NONE };
-    let text = "key,c1\n20,7\n30,7\n60,7\n70,7\n";
-    assert_eq!(rt;
-        salvage(rt.alloc(), bytes, b"t", PLAIN, text)?,
-        (done(passed), true)
-    );
-    Ok(())
+    Ok(bytes)
+}
+
+fn salvage_cut_short(alloc: Global, wanted: &str) -> Result<(SalvageEnd, bool), NoMemory> {
+    salvage(alloc, cut_short(alloc)?, b"t", PLAIN, wanted)
 }
 
 #[test]
-fn pages_are_passed_over(rt: HostRuntime) -> Result<(), Fail> {
-    let pieces: [Piece<'_>; 10] = [
+fn pages_come_in_the_order_of_their_numbers(rt: HostRuntime) {
+    let passed = PassedOver { missing: 2, ..NONE };
+    let text = "key,c1\n20,7\n30,7\n60,7\n70,7\n";
+    same(
+        &rt,
+        &salvage_cut_short(rt.alloc(), text),
+        &Ok((done(passed), true)),
+    );
+}
+
+// Pages of which the last one alone is good.
+fn mostly_bad(alloc: Global) -> Result<Vec<u8>, NoMemory> {
+    let pieces: [Piece<'_>; 11] = [
         // A page without rows, and one with more than there is room for.
         (0, &page(0, 0, 1)),
         (56, &SEAL),
@@ -109,30 +117,30 @@ fn pages_are_passed_over(rt: HostRuntime) -> Result<(), Fail> {
         (256, &page(4, 1, 5)),
         (316, &SEAL),
         (320, &page(5, 1, 6)),
+        (376, &SEAL),
     ];
-    let mut bytes = image(rt.alloc(), PLAIN, PLAIN_BYTES, &pieces)?;
-    for i in 0..4 {
-        if let Some(byte) = bytes.get_mut(1024 + 376 + i) {
-            *byte = 0;
-        }
-    }
-    let passed = PassedOver {
-        missing: 0,
-        torn: 1,
-        void: 1,
-        misplaced: 1,
-        unformed: 2,
-    };
-    let text = "key,c1\n6,7\n";
-    assert_eq!(rt;
-        salvage(rt.alloc(), bytes, b"t", "", text)?,
-        (done(passed), true)
-    );
-    Ok(())
+    image(alloc, PLAIN, PLAIN_BYTES, &pieces)
 }
 
+fn salvage_mostly_bad(alloc: Global, wanted: &str) -> Result<(SalvageEnd, bool), NoMemory> {
+    salvage(alloc, mostly_bad(alloc)?, b"t", "", wanted)
+}
+
+const PASSED: PassedOver = PassedOver {
+    missing: 0,
+    torn: 1,
+    void: 1,
+    misplaced: 1,
+    unformed: 2,
+};
+
 #[test]
-fn blobs_are_whole_or_gone(rt: HostRuntime) -> Result<(), Fail> {
+fn pages_are_passed_over(rt: HostRuntime) {
+    let end = salvage_mostly_bad(rt.alloc(), "key,c1\n6,7\n");
+    same(&rt, &end, &Ok((done(PASSED), true)));
+}
+
+fn salvage_blobs(alloc: Global, wanted: &str) -> Result<(SalvageEnd, bool), NoMemory> {
     let full = [0xab; 48];
     let pieces: [Piece<'_>; 13] = [
         // From page 0 on to page 1; from page 1 behind its content; of no bytes; and longer than any blob of the table.
@@ -150,31 +158,45 @@ fn blobs_are_whole_or_gone(rt: HostRuntime) -> Result<(), Fail> {
         (448, &[1, 0, 0, 0, 8, 0, 0, 0, 1, 2, 3, 4, 5, 6, 7, 8]),
         (504, &SEAL),
     ];
-    let bytes = image(rt.alloc(), WITH_BLOBS, BLOB_BYTES, &pieces)?;
-    let text =
-        "key,c1,blob\n0,7,abababababababababababababababababababababababababababababababababababababababababababababababab0102\n1,7,gone\n2,7,-\n3,7,gone\n";
-    assert_eq!(rt;
-        salvage(rt.alloc(), bytes, b"t", "", text)?,
-        (done(NONE), true)
-    );
-    Ok(())
+    let bytes = image(alloc, WITH_BLOBS, BLOB_BYTES, &pieces)?;
+    salvage(alloc, bytes, b"t", "", wanted)
 }
 
 #[test]
-fn statuses_have_their_causes(rt: HostRuntime) -> Result<(), Fail> {
-    let cases: [(&str, &[u8], &str, ToolStatus); 6] = [
-        (PLAIN, b"t", "", ToolStatus::Done),
-        (PLAIN, b"s", "", ToolStatus::NoTable),
-        // A header that lacks its first letter, and what is given in its place.
-        ("evice 64 2\n", b"t", PLAIN, ToolStatus::Done),
-        ("evice 64 2\n", b"t", "", ToolStatus::NotImage),
-        ("evice 64 2\n", b"t", "device 64 2\n", ToolStatus::NotImage),
-        ("evice 64 2\n", b"t", "device 64\n", ToolStatus::NotImage),
-    ];
-    for (text, name, given, wanted) in cases {
-        let bytes = image(rt.alloc(), text, PLAIN_BYTES, &[])?;
-        let (end, _is_told) = salvage(rt.alloc(), bytes, name, given, "")?;
-        assert_eq!(rt; end.status, wanted);
+fn blobs_are_whole_or_gone(rt: HostRuntime) {
+    let text =
+        "key,c1,blob\n0,7,abababababababababababababababababababababababababababababababababababababababababababababababab0102\n1,7,gone\n2,7,-\n3,7,gone\n";
+    same(
+        &rt,
+        &salvage_blobs(rt.alloc(), text),
+        &Ok((done(NONE), true)),
+    );
+}
+
+// The lines of an image, the name of a table, what the input gives, and how a salvage ends.
+type Cause = (&'static str, &'static [u8], &'static str, ToolStatus);
+
+const CAUSES: &[Cause] = &[
+    (PLAIN, b"t", "", ToolStatus::Done),
+    (PLAIN, b"s", "", ToolStatus::NoTable),
+    // A header that lacks its first letter, and what is given in its place.
+    ("evice 64 2\n", b"t", PLAIN, ToolStatus::Done),
+    ("evice 64 2\n", b"t", "", ToolStatus::NotImage),
+    ("evice 64 2\n", b"t", "device 64 2\n", ToolStatus::NotImage),
+    ("evice 64 2\n", b"t", "device 64\n", ToolStatus::NotImage),
+];
+
+// Whether a salvage ends for this cause.
+fn has_cause(alloc: Global, cause: &Cause) -> Result<bool, NoMemory> {
+    let (text, name, given, wanted) = *cause;
+    let bytes = image(alloc, text, PLAIN_BYTES, &[])?;
+    let (end, _is_told) = salvage(alloc, bytes, name, given, "")?;
+    Ok(end.status == wanted)
+}
+
+#[test]
+fn statuses_have_their_causes(rt: HostRuntime) {
+    for cause in CAUSES {
+        same_at(&rt, &has_cause(rt.alloc(), cause), &Ok(true), cause);
     }
-    Ok(())
 }

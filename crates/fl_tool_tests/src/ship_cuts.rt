@@ -1,6 +1,7 @@
 // Ships that a loss of power ends, at each operation of the copy's flash or of the source's: the next ship brings what is left.
 ghost use Rattle.std.specs.Prelude.{◌≤◌};
 
+use crate::asserts::same;
 use crate::checks::{self, Piece, SEAL};
 use crate::imports::{import, records};
 use crate::ships::{row_page, ship};
@@ -8,7 +9,6 @@ use fl_base::{CutKind, NoMemory};
 use fl_flash::MemMedia;
 use fl_ship::{ShipStatus, Side};
 use std::alloc::Global;
-use std::test::Fail;
 
 // Pages of 64 bytes, two a block, and a ring of three blocks, whose pages hold three rows each.
 const LINES: &str = "device 64 2\ntable t 8 i32 3 0 0 8 0 10 1 0\n";
@@ -174,39 +174,30 @@ fn cut_each(
     Ok((tried, good))
 }
 
+// .. of the copy's flash, where source and copy have the records from 10 up to these keys, and the copy keeps those from another one on
+fn cut_copy(alloc: Global, had: u8, all: u8, last: u8) -> Result<(u64, u64), NoMemory> {
+    let images = Images {
+        source: made(alloc, &[], 10, all)?,
+        copy: made(alloc, &[], 10, had)?,
+    };
+    let (shipped, kept) = (lines(alloc, 10, all)?, lines(alloc, last, all)?);
+    cut_each(alloc, &images, Side::Copy, &shipped, &kept)
+}
+
 #[test]
-fn a_cut_of_a_first_ship(rt: HostRuntime) -> Result<(), Fail> {
+fn a_cut_of_a_first_ship(rt: HostRuntime) {
     // Three pages, each of two operations.
-    let images = Images {
-        source: made(rt.alloc(), &[], 10, 18)?,
-        copy: made(rt.alloc(), &[], 10, 10)?,
-    };
-    let all = lines(rt.alloc(), 10, 18)?;
-    assert_eq!(rt;
-        cut_each(rt.alloc(), &images, Side::Copy, &all, &all)?,
-        (30, 30)
-    );
-    Ok(())
+    same(&rt, &cut_copy(rt.alloc(), 10, 18, 10), &Ok((30, 30)));
 }
 
 #[test]
-fn a_cut_where_the_ring_comes_round(rt: HostRuntime) -> Result<(), Fail> {
+fn a_cut_where_the_ring_comes_round(rt: HostRuntime) {
     // Three pages are written, and a block is erased where the next one is begun. A void page takes the place of records.
-    let images = Images {
-        source: made(rt.alloc(), &[], 10, 34)?,
-        copy: made(rt.alloc(), &[], 10, 25)?,
-    };
-    let (all, last) = (lines(rt.alloc(), 10, 34)?, lines(rt.alloc(), 28, 34)?);
-    assert_eq!(rt;
-        cut_each(rt.alloc(), &images, Side::Copy, &all, &last)?,
-        (35, 35)
-    );
-    Ok(())
+    same(&rt, &cut_copy(rt.alloc(), 25, 34, 28), &Ok((35, 35)));
 }
 
-#[test]
-fn a_cut_behind_void_pages(rt: HostRuntime) -> Result<(), Fail> {
-    // Behind the page of key 10, which is erased where the third block is begun, two are void, and one is begun.
+// A copy where behind the page of key 10, which is erased where the third block is begun, two are void, and one is begun.
+fn with_void_pages(alloc: Global) -> Result<MemMedia, NoMemory> {
     let first = row_page([0; 4], 10);
     let pieces: [Piece<'_>; 5] = [
         (0, &first),
@@ -215,21 +206,25 @@ fn a_cut_behind_void_pages(rt: HostRuntime) -> Result<(), Fail> {
         (188, &SEAL),
         (192, &[3]),
     ];
+    checks::medium(alloc, LINES, PAGES, &pieces)
+}
+
+fn cut_behind_void(alloc: Global) -> Result<(u64, u64), NoMemory> {
     let images = Images {
-        source: made(rt.alloc(), &[], 10, 15)?,
-        copy: checks::medium(rt.alloc(), LINES, PAGES, &pieces)?,
+        source: made(alloc, &[], 10, 15)?,
+        copy: with_void_pages(alloc)?,
     };
-    let (all, last) = (lines(rt.alloc(), 10, 15)?, lines(rt.alloc(), 11, 15)?);
-    assert_eq!(rt;
-        cut_each(rt.alloc(), &images, Side::Copy, &all, &last)?,
-        (30, 30)
-    );
-    Ok(())
+    let (all, last) = (lines(alloc, 10, 15)?, lines(alloc, 11, 15)?);
+    cut_each(alloc, &images, Side::Copy, &all, &last)
 }
 
 #[test]
-fn a_cut_in_repairs_of_the_source(rt: HostRuntime) -> Result<(), Fail> {
-    // The fifth page is begun, and the first block isn't erased yet, which the mount does.
+fn a_cut_behind_void_pages(rt: HostRuntime) {
+    same(&rt, &cut_behind_void(rt.alloc()), &Ok((30, 30)));
+}
+
+// A source whose fifth page is begun, and whose first block isn't erased yet, which the mount does.
+fn to_repair(alloc: Global) -> Result<MemMedia, NoMemory> {
     let pages = [
         row_page([0; 4], 10),
         row_page([1, 0, 0, 0], 11),
@@ -247,14 +242,19 @@ fn a_cut_in_repairs_of_the_source(rt: HostRuntime) -> Result<(), Fail> {
         (248, &SEAL),
         (256, &[4]),
     ];
+    checks::medium(alloc, LINES, PAGES, &pieces)
+}
+
+fn cut_repairs(alloc: Global) -> Result<(u64, u64), NoMemory> {
     let images = Images {
-        source: checks::medium(rt.alloc(), LINES, PAGES, &pieces)?,
-        copy: made(rt.alloc(), &[], 10, 10)?,
+        source: to_repair(alloc)?,
+        copy: made(alloc, &[], 10, 10)?,
     };
-    let all = lines(rt.alloc(), 12, 14)?;
-    assert_eq!(rt;
-        cut_each(rt.alloc(), &images, Side::Source, &all, &all)?,
-        (10, 10)
-    );
-    Ok(())
+    let all = lines(alloc, 12, 14)?;
+    cut_each(alloc, &images, Side::Source, &all, &all)
+}
+
+#[test]
+fn a_cut_in_repairs_of_the_source(rt: HostRuntime) {
+    same(&rt, &cut_repairs(rt.alloc()), &Ok((10, 10)));
 }
