@@ -1,4 +1,5 @@
-use Rattle.std.proofs.Common.{◌≡◌, ◌<◌, ◌≤◌, inl, inr, rules, List, length, sym, ◌∙◌, ap, subst, arith}
+use Rattle.std.proofs.Common.{◌≡◌, ◌<◌, ◌≤◌, inl, inr, rules, List, length, refl, sym, ◌∙◌, ap, subst, arith}
+use Rattle.std.proofs.Math.Nat.{le_refl}
 use Rattle.std.proofs.lemmas.Option.{slice_get_within}
 use Rattle.fl_store.proofs.Unarmed.{opened-unarmed}
 use Rattle.fl_image.proofs.Made.{made-by}
@@ -145,3 +146,30 @@ returns-clause-over g c =
     let e : g.M.Media.state c.media-1.given.0 ≡ g.M.Media.state c.close-media.result.now = search rules in
     inr (job-over c.args.name (g.M.Media.state c.args.media.now) (g.M.Media.state c.begin.new.media) _ c.in-Ok.begun.found _ _ _ (ImportsOver c.import_on-end.result c.args.input.now c.import_on-end.new.input c.args.out.now c.import_on-end.new.out)
     c.in-Ok.ensures.table c.in-Ok.ensures.looks c.over-flash.ensures.tables c.over-flash.ensures.opened c.import_on-end.ensures.goes (e ∙ c.close-media.ensures.state) c.import_on-end.ensures.over)
+
+pub returns-in-Err-clause-untouched : goal.returns-in-Err-clause-untouched
+returns-in-Err-clause-untouched g c = λ early. (c.in-Err.ensures.looks, refl, refl)
+
+pub returns-in-Err-clause-unread : goal.returns-in-Err-clause-unread
+returns-in-Err-clause-unread g c = λ table is. (refl, refl)
+
+pub returns-in-Err-clause-later : goal.returns-in-Err-clause-later
+returns-in-Err-clause-later g c = (le_refl (g.S.Source.faults c.args.input.now), le_refl (g.K.Sink.faults c.args.out.now))
+
+pub returns-clause-kept : goal.returns-clause-kept
+returns-clause-kept g c = c.import_on-end.ensures.causes.kept_is
+
+pub returns-clause-formed : goal.returns-clause-formed
+returns-clause-formed g c = c.import_on-end.ensures.formed
+
+pub returns-clause-unread : goal.returns-clause-unread
+returns-clause-unread g c = c.import_on-end.ensures.unread
+
+pub returns-clause-read : goal.returns-clause-read
+returns-clause-read g c = c.import_on-end.ensures.causes.read
+
+pub returns-clause-write : goal.returns-clause-write
+returns-clause-write g c = c.import_on-end.ensures.causes.write
+
+pub returns-clause-later : goal.returns-clause-later
+returns-clause-later g c = c.import_on-end.ensures.causes.later

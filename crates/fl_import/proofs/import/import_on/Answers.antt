@@ -147,3 +147,15 @@ returns-clause-over g c =
     puts-over entries now f m c.mount.result (record { found = e.found; refused = e.refused; stops = e.stops; cause = e.cause; running = e.running; none = e.none; power = e.power; as_many = e.as_many; names = e.names; same = e.same; repairs = e.repairs; outside = e.outside })
     end c.args.input.now c.import_table-status.new.input c.args.out.now c.import_table-status.new.out c.args.at h tt c.in_default.is e.goes (λ table is. table-bad c.import_table-status.result table c.import_table-status.ensures.statuses is)
     (own-changes entries now c.args.at c.index_mut.result.now m h e.same c.requires.at (entry-at c.mount.new.self.entries.items c.args.at c.index_mut.result.now (omega (arith, c.requires.at, c.mount.ensures.as_many)) c.index_mut.ensures.value) c.import_table-status.ensures.outside)
+
+pub returns-in-Err-clause-goes : goal.returns-in-Err-clause-goes
+returns-in-Err-clause-goes g c = c.mount.ensures.goes
+
+pub returns-in-Err-clause-unread : goal.returns-in-Err-clause-unread
+returns-in-Err-clause-unread g c = λ table is. (refl, refl)
+
+pub returns-clause-form : goal.returns-clause-form
+returns-clause-form g c = refl
+
+pub returns-clause-formed : goal.returns-clause-formed
+returns-clause-formed g c = λ line is. refl
