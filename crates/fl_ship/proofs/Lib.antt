@@ -14,6 +14,7 @@ mod MediaEnds
 mod MadeCopy
 mod ImageEnds
 mod Causes
+mod Prepared
 mod Faults
 mod OneTable
 mod BadPages

@@ -1,12 +1,14 @@
 // Two media between which a ship may begin.
 ghost use Rattle.std.specs.Prelude.{◌≡◌, ◌<◌, Some, [], length, slice_get, IsTrue, IfErr, IfOk, Err};
 ghost use Rattle.fl_base.specs.Causes.{Rose};
+ghost use Rattle.fl_config.specs.Whole.{is_whole};
 ghost use Rattle.fl_image.specs.Image.{OnlyLooksAt};
 ghost use Rattle.fl_model.specs.Record.{Plan};
 ghost use Rattle.fl_ship.specs.Ends.{is_shipped};
 ghost use Rattle.fl_ship.specs.Fits.{StatusFits};
 ghost use Rattle.fl_ship.specs.Media.{source_status};
-ghost use Rattle.fl_ship.specs.Ready.{EndsEarly, IsEarly, IsReady};
+ghost use Rattle.fl_ship.specs.Ready.{EndsEarly, IsEarly, IsPrepared, IsReady, IsUnprepared};
+ghost use Rattle.fl_store.specs.Store.{IsLayoutOf};
 ghost use Rattle.fl_ship.specs.declared.side.Side.{Side};
 ghost use Rattle.fl_ship.specs.declared.status.ShipStatus.{ShipStatus};
 
@@ -54,6 +56,38 @@ fn is_shipped(config: &Config, at: usize) -> bool
     config.table(at).var.is_none() && config.log(at).is_none()
 }
 
+/// What a ship of the table with this name needs besides the media, of this image.
+fn prepared(alloc: Global, name: Name, found: FoundImage) -> Result<Ready, ShipStatus>
+    requires whole { IsTrue (is_whole found.config) }
+    requires layout { IsLayoutOf found.layout found.config }
+    ensures ready { IfOk result (λ ready. IsPrepared ready found name) }
+    ensures refused { IfErr result (IsUnprepared found name) }
+{
+    let FoundImage {
+        config,
+        layout: source,
+    } = found;
+    let Ok(copy) = Layout::new(alloc, &config) else {
+        return Err(ShipStatus::NoMemory);
+    };
+    let Ok(rooms) = Rooms::new(alloc, config.geometry().page) else {
+        return Err(ShipStatus::NoMemory);
+    };
+    let Some(at) = source.find(name) else {
+        return Err(ShipStatus::NoTable);
+    };
+    if !is_shipped(&config, at) {
+        return Err(ShipStatus::OtherForm);
+    }
+    Ok(Ready {
+        config,
+        source,
+        copy,
+        rooms,
+        at,
+    })
+}
+
 /// What a ship of the table with this name needs, where the source is an image that has it, and the copy is empty or an image of the
 /// same configuration. Nothing of the media changes.
 pub(crate) fn make_ready<M: Media, C: Media>(
@@ -72,31 +106,10 @@ pub(crate) fn make_ready<M: Media, C: Media>(
     ensures copy_looks { OnlyLooksAt (C.state copy.old) (C.state copy.new) }
     ensures copy_unread { (C.state copy.old).content ≡ [] → (C.state copy.new).reads ≡ (C.state copy.old).reads }
 {
-    let FoundImage {
-        config,
-        layout: source,
-    } = match FoundImage::on(alloc, media) {
+    let found = match FoundImage::on(alloc, media) {
         Ok(found) => found,
         Err(status) => return Err(source_status(status)),
     };
-    look_at_copy(&config, copy)?;
-    let Ok(layout) = Layout::new(alloc, &config) else {
-        return Err(ShipStatus::NoMemory);
-    };
-    let Ok(rooms) = Rooms::new(alloc, config.geometry().page) else {
-        return Err(ShipStatus::NoMemory);
-    };
-    let Some(at) = source.find(name) else {
-        return Err(ShipStatus::NoTable);
-    };
-    if !is_shipped(&config, at) {
-        return Err(ShipStatus::OtherForm);
-    }
-    Ok(Ready {
-        config,
-        source,
-        copy: layout,
-        rooms,
-        at,
-    })
+    look_at_copy(&found.config, copy)?;
+    prepared(alloc, name, found)
 }

@@ -1,18 +1,16 @@
-use Rattle.std.proofs.Common.{Err, false, sym, ◌∙◌, ap, subst, arith}
-use Rattle.std.proofs.lemmas.Option.{slice_get_within}
+use Rattle.std.proofs.Common.{Err, sym, ap, subst}
 use Rattle.std.proofs.lemmas.Result.{err_from_is_err_and}
-use Rattle.fl_base.specs.declared.types.Geometry.{Geometry}
 use Rattle.fl_image.specs.declared.status.ToolStatus.{ToolStatus}
 use Rattle.fl_store.proofs.Named.{looks-same}
-use Rattle.fl_store.proofs.TablesChanged.{some-is}
 use Rattle.fl_ship.specs.Ends.{ShipEnds}
 use Rattle.fl_ship.specs.Fits.{StatusFits}
 use Rattle.fl_ship.specs.Media.{bytes_of}
 use Rattle.fl_ship.specs.Tables.{told_of}
 use Rattle.fl_ship.specs.declared.status.ShipStatus.{ShipStatus}
-use Rattle.fl_ship.proofs.Causes.{fits-look, fits-source, images-for, images-without}
-use Rattle.fl_ship.proofs.ImageEnds.{form-ends, look-ends, memory-ends, nameless-ends, source-ends}
-use Rattle.fl_ship.proofs.Forms.{named-alike}
+use Rattle.fl_ship.specs.declared.side.Side.TheVariants.{Copy, Source}
+use Rattle.fl_ship.proofs.Causes.{fits-look, fits-source}
+use Rattle.fl_ship.proofs.ImageEnds.{look-ends, source-ends}
+use Rattle.fl_ship.proofs.Prepared.{early, ends, fits, no-device, ready}
 use Rattle.fl_ship.proofs.ready.make_ready.Goals as goal
 
 pub returns-in-Err-clause-ends : goal.returns-in-Err-clause-ends
@@ -47,50 +45,35 @@ returns-in_err-look_at_copy-clause-fits g c =
     fits-look (g.M.Media.state c.args.media.now).content (g.C.Media.state c.args.copy.now).content c.args.name c.in-Ok.found.config is.0 is.1 c.in_err-look_at_copy.field-0.0 c.in_err-look_at_copy.ensures.statuses
     (λ e. c.in_err-look_at_copy.ensures.other (ap (λ (s : ShipStatus). Err s) e) copy_tells))
 
-pub returns-in_default-new-clause-ends : goal.returns-in_default-new-clause-ends
-returns-in_default-new-clause-ends g c = λ config sources copies count told tells copy_tells made image stands.
-    memory-ends config sources copies c.args.name count (g.M.Media.state c.args.media.now) (g.M.Media.state c.on.new.media) (g.C.Media.state c.args.copy.now) (g.C.Media.state c.look_at_copy.new.copy) told image stands c.in-Ok.ensures.looks c.look_at_copy.ensures.looks
-
-pub returns-in_default-find-clause-ends : goal.returns-in_default-find-clause-ends
-returns-in_default-find-clause-ends g c = λ config sources copies count told tells copy_tells made image stands.
-    nameless-ends config sources copies c.args.name count (g.M.Media.state c.args.media.now) (g.M.Media.state c.on.new.media) (g.C.Media.state c.args.copy.now) (g.C.Media.state c.look_at_copy.new.copy) told image stands
-    c.in-Ok.ensures.looks c.in-Ok.found.config c.in-Ok.found.layout.tables.entries.items (c.in-Ok.ensures.finds config sources tells made image) c.in-Ok.ensures.layout.tables c.look_at_copy.ensures.looks c.in_default-find.ensures
-
-pub returns-in_default-find-clause-fits : goal.returns-in_default-find-clause-fits
-returns-in_default-find-clause-fits g c = λ tells copy_tells.
-    let is = c.in-Ok.ensures.image tells in
-    images-without (g.M.Media.state c.args.media.now).content (g.C.Media.state c.args.copy.now).content c.args.name c.in-Ok.found.config c.in-Ok.found.layout.tables.entries.items is.0 is.1
-    (c.in_ok-look_at_copy.ensures.own copy_tells) c.in-Ok.ensures.layout.tables c.in_default-find.ensures
-
-pub is_shipped-requires : goal.is_shipped-requires
-is_shipped-requires g c = omega (arith, slice_get_within c.in-Ok.found.layout.tables.entries.items c.in-Some.at c.in-Some.ensures.entry c.in-Some.ensures.here, c.in-Ok.ensures.layout.tables.as_many)
-
-pub returns-then-not-is_shipped-clause-ends : goal.returns-then-not-is_shipped-clause-ends
-returns-then-not-is_shipped-clause-ends g c = λ config sources copies count told tells copy_tells made image stands.
-    form-ends config sources copies c.args.name count (g.M.Media.state c.args.media.now) (g.M.Media.state c.on.new.media) (g.C.Media.state c.args.copy.now) (g.C.Media.state c.look_at_copy.new.copy) told image stands
-    c.in-Ok.ensures.looks c.in-Ok.found.config c.in-Ok.found.layout.tables.entries.items (c.in-Ok.ensures.finds config sources tells made image) c.in-Ok.ensures.layout.tables c.look_at_copy.ensures.looks c.in-Some.at c.in-Some.ensures
-    (λ plan e. sym (c.is_shipped.ensures plan e) ∙ c.if-not-is_shipped.true)
-
-pub returns-then-not-is_shipped-clause-fits : goal.returns-then-not-is_shipped-clause-fits
-returns-then-not-is_shipped-clause-fits g c = λ tells copy_tells.
-    let is = c.in-Ok.ensures.image tells in
-    images-for (g.M.Media.state c.args.media.now).content (g.C.Media.state c.args.copy.now).content c.args.name c.in-Ok.found.config c.in-Ok.found.layout.tables.entries.items is.0 is.1
-    (c.in_ok-look_at_copy.ensures.own copy_tells) c.in-Ok.ensures.layout.tables c.in-Some.at c.in-Some.ensures false (λ plan e. sym (c.is_shipped.ensures plan e) ∙ c.if-not-is_shipped.true)
-
 pub returns-clause-ready : goal.returns-clause-ready
-returns-clause-ready g c = record {
-  whole = c.in-Ok.ensures.whole;
-  source_layout = c.in-Ok.ensures.layout;
-  copy_layout = c.in-Ok-new.ensures;
-  rows = λ geometry device. c.in-Ok-new-2.ensures.rows ∙ ap (λ (x : Geometry). x.page) (some-is c.in-Ok.found.config.device _ geometry c.geometry.ensures.device device);
-  index = λ geometry device. c.in-Ok-new-2.ensures.index ∙ ap (λ (x : Geometry). x.page) (some-is c.in-Ok.found.config.device _ geometry c.geometry.ensures.device device);
-  at = omega (arith, slice_get_within c.in-Ok.found.layout.tables.entries.items c.in-Some.at c.in-Some.ensures.entry c.in-Some.ensures.here, c.in-Ok.ensures.layout.tables.as_many);
-  named = c.in-Some.ensures;
-  copy_named = named-alike c.in-Ok.found.layout.tables.entries.items c.in-Ok-new.layout.tables.entries.items c.in-Ok.found.config c.in-Ok.ensures.layout.tables c.in-Ok-new.ensures.tables c.args.name c.in-Some.at c.in-Some.ensures;
-  shipped = λ plan e. sym (c.is_shipped.ensures plan e) ∙ c.if-not-is_shipped.false;
-  size = c.in-Ok.ensures.size;
-  copy_size = λ config makes some. c.in_ok-look_at_copy.ensures.size config makes some;
-  makes = λ config tables tells made image. c.in-Ok.ensures.finds config tables tells made image;
-  image = λ tells. c.in-Ok.ensures.image tells;
-  own = λ tells. c.in_ok-look_at_copy.ensures.own tells;
-}
+returns-clause-ready g c =
+    ready c.in-Ok.found c.args.name c.in-Ok.ensures.layout (g.M.Media.state c.args.media.now) (g.C.Media.state c.args.copy.now) c.in-Ok.ensures.image c.in_ok-look_at_copy.ensures.own
+    c.in-Ok.ensures.whole c.in-Ok.ensures.finds c.in-Ok.ensures.size c.in_ok-look_at_copy.ensures.size c.prepared.result c.prepared.ensures.ready
+
+pub returns-clause-early : goal.returns-clause-early
+returns-clause-early g c = early c.in-Ok.found c.args.name c.prepared.result c.prepared.ensures.refused
+
+pub returns-clause-ends : goal.returns-clause-ends
+returns-clause-ends g c =
+    ends c.in-Ok.found c.args.name c.in-Ok.ensures.layout (g.M.Media.state c.args.media.now) (g.M.Media.state c.on.new.media) (g.C.Media.state c.args.copy.now) (g.C.Media.state c.look_at_copy.new.copy)
+    c.in-Ok.ensures.looks c.look_at_copy.ensures.looks c.in-Ok.ensures.finds c.prepared.result c.prepared.ensures.refused
+
+pub returns-clause-fits : goal.returns-clause-fits
+returns-clause-fits g c =
+    fits c.in-Ok.found c.args.name c.in-Ok.ensures.layout (g.M.Media.state c.args.media.now) (g.C.Media.state c.args.copy.now) c.in-Ok.ensures.image c.in_ok-look_at_copy.ensures.own
+    c.prepared.result c.prepared.ensures.refused
+
+pub returns-clause-device : goal.returns-clause-device
+returns-clause-device g c = λ is. absurd (no-device c.in-Ok.found c.args.name c.prepared.result Source c.prepared.ensures.refused is)
+
+pub returns-clause-copy_device : goal.returns-clause-copy_device
+returns-clause-copy_device g c = λ is. absurd (no-device c.in-Ok.found c.args.name c.prepared.result Copy c.prepared.ensures.refused is)
+
+pub returns-clause-looks : goal.returns-clause-looks
+returns-clause-looks g c = c.in-Ok.ensures.looks
+
+pub returns-clause-copy_looks : goal.returns-clause-copy_looks
+returns-clause-copy_looks g c = c.look_at_copy.ensures.looks
+
+pub returns-clause-copy_unread : goal.returns-clause-copy_unread
+returns-clause-copy_unread g c = c.look_at_copy.ensures.unread
