@@ -19,7 +19,7 @@ use fl_sizing::PlanStatus;
 use std::fmt::{self, Display};
 
 /// How the program ends: its status is the number, and standard error has the text.
-#[derive(Clone, Copy, Debug, PartialEq, Eq)]
+#[derive(Clone, Copy)]
 pub enum Exit {
     /// A run of a script ended so, or its words don't name an image.
     Run(Status),

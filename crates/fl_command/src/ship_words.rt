@@ -10,7 +10,7 @@ use fl_base::Name;
 use fl_session::names_image;
 
 /// A ship of records of a table from the image that the second word names to the copy that the third one names.
-#[derive(Clone, Copy, Debug, PartialEq, Eq)]
+#[derive(Clone, Copy)]
 pub struct ShipJob {
     /// The table.
     pub name: Name,

@@ -10,7 +10,7 @@ use std::fmt::{self, Display};
 use std::process::{ExitCode, Termination};
 
 /// How much of an ending that failed stands on standard error. What stands there beside status 0 is no explanation.
-#[derive(Clone, Copy, Debug, PartialEq, Eq)]
+#[derive(Clone, Copy)]
 pub enum Telling {
     /// The one line of its exit, which programs compare.
     Headline,

@@ -13,7 +13,7 @@ use fl_map::Drawing;
 use fl_session::names_image;
 
 /// A job over an image, whose name is the second word.
-#[derive(Clone, Copy, Debug, PartialEq, Eq)]
+#[derive(Clone, Copy)]
 pub enum ToolJob {
     /// Tells whether each table of the image is sound, up to the first that isn't.
     Check,
