@@ -119,9 +119,7 @@ fn shell_begun<M: Media, S: Source, K: Sink>(
     };
     let is_new = media.len() == 0;
     match begun.config.open_image(media) {
-        Ok(()) => talk_over(
-            alloc, media, begun, is_new, rooms, lines, room, input, out,
-        ),
+        Ok(()) => talk_over(alloc, media, begun, is_new, rooms, lines, room, input, out),
         Err(refusal) => ShellEnd::of(status_of(refusal)),
     }
 }
