@@ -77,8 +77,8 @@ pub record Maps {S K : Type 0} (drawing : Drawing) (old new : Ends S K) (end : J
 
 -- An export of the table with the name: over an image that stands for tables its records whose keys are in the range are
 -- written, or a front of their text, and the medium stands for the tables that a mount leaves. Whatever bytes the medium holds, and
--- whether it tells them, a store is opened, or the status says why not; its tables are mounted, up to one that is refused, and then nothing is
--- written; else pages are read and none is changed. The input isn't read.
+-- whether it tells them, a store is opened, or the status says why not; its tables are mounted, up to one that is refused, and for
+-- a bad page as far as the medium tells its bytes with nothing written; else pages are read and none is changed. The input isn't read.
 pub record Exports {S K : Type 0} (name : List ℕ) (range : KeyRange) (old new : Ends S K) (end : JobEnd) : Type 0 where
   pub ends : (config : Config) (tables : List Table) → IsTrue old.media.tells → IsMade config → IsImage config old.media.content tables
       → ExportEnds config tables name range (export_told old.media new.media old.written new.written) old.media.content new.media.content end.status
@@ -98,8 +98,8 @@ pub record Exports {S K : Type 0} (name : List ℕ) (range : KeyRange) (old new 
 
 -- An import into the table with the name: over an image that stands for tables the lines of the input are put in turn, and
 -- the table is flushed; what is refused is told. The medium stands for the tables that this leaves. Whatever bytes the medium holds,
--- and whether it tells them, a store is opened, or the status says why not; its tables are mounted, up to one that is refused, and then no line
--- is taken and nothing is written; else only pages in the rings of the named one change.
+-- and whether it tells them, a store is opened, or the status says why not; its tables are mounted, up to one that is refused, and for
+-- a bad page with no line taken and nothing written; else only pages in the rings of the named one change.
 pub record Imports {S K : Type 0} (name : List ℕ) (gone : GoneBlobs) (old new : Ends S K) (end : JobEnd) : Type 0 where
   pub ends : (config : Config) (tables : List Table) (text : List ℕ) → IsTrue old.media.tells → IsMade config → IsImage config old.media.content tables → old.left ≡ Some text
       → ImportEnds config tables name text (import_told gone end.taken old.written new.written new.left) old.media.faults new.media.faults old.media.content new.media.content end.kept end.status

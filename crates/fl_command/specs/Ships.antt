@@ -36,8 +36,9 @@ sides_of source copy out written out_faults = record { source = source; copy = c
 -- A ship of the table with the name: over an image that stands for tables, and a copy that does or is empty, the next records are put
 -- into the copy, and how many they were is written. Both media stand for the tables that this leaves, but for an empty copy whose
 -- making failed. Whatever bytes the media hold, and whether they tell them, the status says why neither is opened, or the tables of both are
--- mounted, up to one that is refused; then the source is only read, and of the copy only pages in the rings of the named table change. Nothing
--- is written but how many records the status tells as shipped.
+-- mounted, up to one that is refused; then the source is only read, and of the copy only pages in the rings of the named table change. As
+-- far as the bytes of the output are told, a ship that is done writes how many records its status tells, and one whose output failed a front
+-- of such a line; else nothing is written.
 pub record Ships {K : Type 0} (name : List ℕ) (count : ℕ) (old new : Sides K) (status : ShipStatus) : Type 0 where
   pub ends : (config : Config) (sources copies : List Table) → IsTrue old.source.tells → IsTrue old.copy.tells → IsMade config → IsImage config old.source.content sources
       → IsCopy config old.copy.content copies

@@ -9,8 +9,8 @@ use Rattle.fl_store.specs.declared.tables.Entry.{Entry}
 use Rattle.fl_import.specs.Taken.{end_of}
 use Rattle.fl_import.specs.declared.job_end.JobEnd.{JobEnd}
 
--- Where a table is refused, its status is told, and that no line was taken; input and output stay as they were, and nothing more is done. Else
--- no table is told as bad, and only pages in the rings of the table at this place change.
+-- Where a table is refused, its status is told, that no line was taken, and neither rows nor a form; input and output stay as they were, and
+-- nothing more is done. Else no table is told as bad, and only pages in the rings of the table at this place change.
 abbrev pub PutsInto : {S K : Type 0} → JobEnd → S → S → K → K → List Entry → ℕ → FlashState → Result (Unit {0}) BadMount → List Entry → FlashState → Type 0
 PutsInto end input input_now out out_now entries at g (Err bad) now between =
     (end ≡ end_of (mount_status bad.fault bad.at)) × (g ≡ between) × (input_now ≡ input) × (out_now ≡ out)

@@ -138,8 +138,8 @@ pub fn import_image<M: Media, S: Source, K: Sink>(
         OthersAreRepaired config name (M.state media.old).content (M.state media.new).content }
 
     // Whatever bytes the medium holds, and whether it tells them: a store is opened, or the status says why not. Its tables are mounted, up to
-    // one that is refused, and then no line is taken and nothing is written to the output. Else only pages in the rings of the named
-    // one change. Outside of the rings of the tables that the mount came to, nothing changes.
+    // one that is refused: for a bad page with no line taken and nothing written to the output. Else only pages in the rings of the
+    // named one change. Outside of the rings of the tables that the mount came to, nothing changes.
     ensures over { JobEnds name (M.state media.old) (M.state media.new) result.status (ImportsOver result input.old input.new out.old out.new) }
 
     // Rows are told exactly where it is done.

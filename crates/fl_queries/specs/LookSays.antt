@@ -25,7 +25,7 @@ abbrev pub TellsRow : Table 64 64 → ℕ → FlashState → Reply → Type 0
 TellsRow t key f said = FindsRow t key f (λ row. said ≡ row_reply (has_blobs t) row)
 
 -- The row with the key or that there is none, as the lookup in the table ends; a read fault, or the bad page, only where it
--- fails so. Of a covered key it is the newest bad page of its window, behind which none of the window begins with at most the key.
+-- fails so. Of a covered key it is the newest bad page before the end of its window, and none from it to there begins with at most the key.
 abbrev pub LookSays : Table 64 64 → ℕ → FlashState → FlashState → Reply → Type 0
 LookSays t key f g reply.Absent = IsAnswered t f key None
 LookSays t key f g (reply.Row k values note) = TellsRow t key f (reply.Row k values note)

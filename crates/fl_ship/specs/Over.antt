@@ -117,7 +117,8 @@ ShipJob name count source source_now copy copy_now status =
 
 -- ---- to the output
 
--- What a ship that ended so has written: how many records it tells as shipped, or a front of that line where the output failed; else nothing.
+-- What a ship that ended so has written, as far as the bytes of the output are told: how many records it tells as shipped, or where the
+-- output failed a front of such a line, with a number of at most as many as were asked for. Otherwise it has written nothing.
 abbrev pub WritesLine : {K : Type 0} → ℕ → K → K → Option (List ℕ) → Option (List ℕ) → ShipStatus → Type 0
 WritesLine count out out_now written written_now (Done shipped) = Appends written written_now (shipped_text shipped)
 WritesLine count out out_now written written_now OutWrite = (shipped : ℕ) × (shipped ≤ count) × AppendsFront written written_now (shipped_text shipped)

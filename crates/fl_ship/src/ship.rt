@@ -72,7 +72,7 @@ pub fn ship_image<M: Media, C: Media, K: Sink>(
     ensures copy_device { result ≡ ShipStatus.Device Side.Copy → Rose (C.state copy.old).faults (C.state copy.new).faults }
     ensures write { result ≡ ShipStatus.OutWrite → Rose (K.faults out.old) (K.faults out.new) }
 
-    // Nothing is written, over any bytes, but how many records it tells as shipped.
+    // Over any bytes it writes how many records it tells as shipped, as far as the bytes of the output are told, or nothing.
     ensures line { WritesLine count out.old out.new (K.written out.old) (K.written out.new) result }
 
     // Neither medium changes where they aren't images of one configuration that has the table, and it is shipped.
