@@ -18,7 +18,7 @@ use Rattle.fl_image_check.specs.declared.extent.Extent.{Extent}
 use Rattle.fl_image_check.specs.declared.extent.Extent.TheVariants.{FirstFault, AllTables}
 use Rattle.fl_import.specs.Ends.{ImportEnds, IsFormIn, StatusFits as ImportFits}
 use Rattle.fl_import.specs.Images.{told_of as import_told}
-use Rattle.fl_import.specs.Over.{ImportsOver}
+use Rattle.fl_import.specs.Over.{ImportsOver, IsUnbegun}
 use Rattle.fl_import.specs.Taken.{end_of}
 use Rattle.fl_import.specs.declared.job_end.JobEnd.{JobEnd}
 use Rattle.fl_map.specs.declared.drawing.Drawing.{Drawing}
@@ -77,14 +77,14 @@ pub record Maps {S K : Type 0} (drawing : Drawing) (old new : Ends S K) (end : J
 
 -- An export of the table with the name: over an image that stands for tables its records whose keys are in the range are
 -- written, or a front of their text, and the medium stands for the tables that a mount leaves. Whatever bytes the medium holds, and
--- whether it tells them, a store is opened, or the status says why not; its tables are mounted, up to one that is refused, and for
--- a bad page as far as the medium tells its bytes with nothing written; else pages are read and none is changed. The input isn't read.
+-- whether it tells them, no store is opened, and nothing is written; or its tables are mounted, up to one that is refused, and nothing is
+-- written; or pages are read then and none is changed. The input isn't read.
 pub record Exports {S K : Type 0} (name : List ℕ) (range : KeyRange) (old new : Ends S K) (end : JobEnd) : Type 0 where
   pub ends : (config : Config) (tables : List Table) → IsTrue old.media.tells → IsMade config → IsImage config old.media.content tables
       → ExportEnds config tables name range (export_told old.media new.media old.written new.written) old.media.content new.media.content end.status
   pub repairs : (config : Config) (tables : List Table) → IsTrue old.media.tells → IsMade config → IsImage config old.media.content tables → (end.status ≡ Device → ⊥)
       → AreRepaired config old.media.content new.media.content
-  pub over : JobEnds name old.media new.media end.status (ExportsOver end.status old.out new.out)
+  pub over : JobEnds name old.media new.media end.status (new.out ≡ old.out) (ExportsOver end.status old.out new.out)
   pub fits : IsTrue old.media.tells → ExportFits old.media.content name end.status
   pub device : end.status ≡ Device → Rose old.media.faults new.media.faults
   pub known : end.status ≡ Unsound → ⊥
@@ -98,14 +98,14 @@ pub record Exports {S K : Type 0} (name : List ℕ) (range : KeyRange) (old new 
 
 -- An import into the table with the name: over an image that stands for tables the lines of the input are put in turn, and
 -- the table is flushed; what is refused is told. The medium stands for the tables that this leaves. Whatever bytes the medium holds,
--- and whether it tells them, a store is opened, or the status says why not; its tables are mounted, up to one that is refused, and for
--- a bad page with no line taken and nothing written; else only pages in the rings of the named one change.
+-- and whether it tells them, no store is opened, no line is taken and nothing is written; or its tables are mounted, up to one that is refused,
+-- and neither is done; or only pages in the rings of the named one change then.
 pub record Imports {S K : Type 0} (name : List ℕ) (gone : GoneBlobs) (old new : Ends S K) (end : JobEnd) : Type 0 where
   pub ends : (config : Config) (tables : List Table) (text : List ℕ) → IsTrue old.media.tells → IsMade config → IsImage config old.media.content tables → old.left ≡ Some text
       → ImportEnds config tables name text (import_told gone end.taken old.written new.written new.left) old.media.faults new.media.faults old.media.content new.media.content end.kept end.status
   pub repairs : (config : Config) (tables : List Table) → IsTrue old.media.tells → IsMade config → IsImage config old.media.content tables → (end.status ≡ Device → ⊥)
       → OthersAreRepaired config name old.media.content new.media.content
-  pub over : JobEnds name old.media new.media end.status (ImportsOver end old.input new.input old.out new.out)
+  pub over : JobEnds name old.media new.media end.status (IsUnbegun end old.input new.input old.out new.out) (ImportsOver end old.input new.input old.out new.out)
   pub kept : is_some end.kept ≡ is_done end.status
   pub form : IsTrue old.media.tells → IfSome end.form (λ form. IsFormIn old.media.content name form)
   pub formed : (line : ℕ) → end.status ≡ BadInput line → is_some end.form ≡ true

@@ -103,10 +103,10 @@ pub fn export_image<M: Media, K: Sink>(
     ensures repairs { (config : Configured) (tables : List model.Table) → IsTrue (M.state media.old).tells → IsMade config → IsImage config (M.state media.old).content tables → (result ≡ ToolStatus.Device → ⊥) →
         AreRepaired config (M.state media.old).content (M.state media.new).content }
 
-    // Whatever bytes the medium holds, and whether it tells them: a store is opened, or the status says why not. Its tables are mounted, up to
-    // one that is refused: for a bad page, as far as the medium tells its bytes, with nothing written to the output. Else pages are read
-    // and none is changed. Outside of the rings of the tables that the mount came to, nothing changes.
-    ensures over { JobEnds name (M.state media.old) (M.state media.new) result (ExportsOver result out.old out.new) }
+    // Whatever bytes the medium holds, and whether it tells them: no store is opened, and nothing is written to the
+    // output; or its tables are mounted, up to one that is refused, and nothing is written; or pages are read then and none is
+    // changed. Outside of the rings of the tables that the mount came to, nothing changes.
+    ensures over { JobEnds name (M.state media.old) (M.state media.new) result (out.new ≡ out.old) (ExportsOver result out.old out.new) }
 
     // Statuses have their causes, over any bytes, and a medium that doesn't tell them.
     ensures fits { IsTrue (M.state media.old).tells → StatusFits (M.state media.old).content name result }

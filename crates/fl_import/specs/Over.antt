@@ -16,6 +16,10 @@ PutsInto end input input_now out out_now entries at g (Err bad) now between =
     (end ≡ end_of (mount_status bad.fault bad.at)) × (g ≡ between) × (input_now ≡ input) × (out_now ≡ out)
 PutsInto end input input_now out out_now entries at g (Ok done) now between = ((table : ℕ) → end.status ≡ BadImage table → ⊥) × ChangesOwn entries at between g
 
+-- no line was taken, neither rows nor a form are handed up, and input and output stay as they were
+abbrev pub IsUnbegun : {S K : Type 0} → JobEnd → S → S → K → K → Type 0
+IsUnbegun end input input_now out out_now = (end ≡ end_of end.status) × (input_now ≡ input) × (out_now ≡ out)
+
 -- the tables were mounted, and records were put into the one at this place
 abbrev pub ImportsOver : {S K : Type 0} → JobEnd → S → S → K → K → ℕ → List Entry → FlashState → FlashState → Type 0
 ImportsOver end input input_now out out_now at entries f g = MountsThen entries f g (PutsInto end input input_now out out_now entries at g)

@@ -21,7 +21,7 @@ ghost use Rattle.fl_words.specs.Config as words;
 ghost use Rattle.fl_words.specs.Medium.{IsImage};
 ghost use Rattle.fl_import.specs.Ends.{ImportEnds, IsFormIn, StatusFits};
 ghost use Rattle.fl_import.specs.Images.{EndsOn, FormsAt, HasCauses, told_of};
-ghost use Rattle.fl_import.specs.Over.{ImportsOver};
+ghost use Rattle.fl_import.specs.Over.{ImportsOver, IsUnbegun};
 ghost use Rattle.fl_import.specs.Taking.{EndedOver};
 
 use crate::begin::{Begun, begin};
@@ -137,10 +137,10 @@ pub fn import_image<M: Media, S: Source, K: Sink>(
     ensures repairs { (config : Configured) (tables : List model.Table) → IsTrue (M.state media.old).tells → IsMade config → IsImage config (M.state media.old).content tables → (result.status ≡ ToolStatus.Device → ⊥) →
         OthersAreRepaired config name (M.state media.old).content (M.state media.new).content }
 
-    // Whatever bytes the medium holds, and whether it tells them: a store is opened, or the status says why not. Its tables are mounted, up to
-    // one that is refused: for a bad page with no line taken and nothing written to the output. Else only pages in the rings of the
-    // named one change. Outside of the rings of the tables that the mount came to, nothing changes.
-    ensures over { JobEnds name (M.state media.old) (M.state media.new) result.status (ImportsOver result input.old input.new out.old out.new) }
+    // Whatever bytes the medium holds, and whether it tells them: no store is opened, no line is taken and nothing is
+    // written to the output; or its tables are mounted, up to one that is refused, and neither is done; or only pages in the rings of
+    // the named one change then. Outside of the rings of the tables that the mount came to, nothing changes.
+    ensures over { JobEnds name (M.state media.old) (M.state media.new) result.status (IsUnbegun result input.old input.new out.old out.new) (ImportsOver result input.old input.new out.old out.new) }
 
     // Rows are told exactly where it is done.
     ensures kept { is_some result.kept ≡ is_done result.status }

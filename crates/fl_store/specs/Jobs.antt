@@ -70,6 +70,6 @@ IsUnopened Device = Unit {0}
 IsUnopened NoMemory = Unit {0}
 IsUnopened status = ⊥
 
--- .. or it opened none, and the header was only looked at
-abbrev pub JobEnds : List ℕ → MediaState → MediaState → ToolStatus → (ℕ → List Entry → FlashState → FlashState → Type 0) → Type 0
-JobEnds name old new status Did = (IsUnopened status × OnlyLooksAt old new) ⊎ JobOver name old new Did
+-- .. or it opened none, the header was only looked at, and this stayed the same
+abbrev pub JobEnds : List ℕ → MediaState → MediaState → ToolStatus → Type 0 → (ℕ → List Entry → FlashState → FlashState → Type 0) → Type 0
+JobEnds name old new status Same Did = (IsUnopened status × OnlyLooksAt old new × Same) ⊎ JobOver name old new Did

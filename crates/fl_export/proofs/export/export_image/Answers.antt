@@ -121,10 +121,10 @@ returns-clause-keeps g c =
     keeps-then _ _ _ c.in-Ok.ensures.looks (worked-keeps _ _ _ _ _ (worked-by c.over-flash.ensures.opened c.export_on-status.ensures.goes (e ∙ c.close-media.ensures.state)))
 
 pub returns-in-Err-clause-over : goal.returns-in-Err-clause-over
-returns-in-Err-clause-over g c = inl (unopened (g.M.Media.state c.args.media.now) (g.M.Media.state c.on.new.media) c.args.name c.in-Err.status c.in-Err.ensures.none, c.in-Err.ensures.looks)
+returns-in-Err-clause-over g c = inl (unopened (g.M.Media.state c.args.media.now) (g.M.Media.state c.on.new.media) c.args.name c.in-Err.status c.in-Err.ensures.none, c.in-Err.ensures.looks, refl)
 
 pub returns-in_default-clause-over : goal.returns-in_default-clause-over
-returns-in_default-clause-over g c = inl (tt, c.in-Ok.ensures.looks)
+returns-in_default-clause-over g c = inl (tt, c.in-Ok.ensures.looks, refl)
 
 pub returns-clause-over : goal.returns-clause-over
 returns-clause-over g c =

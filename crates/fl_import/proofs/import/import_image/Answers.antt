@@ -61,7 +61,7 @@ pub returns-in-Err-clause-keeps : goal.returns-in-Err-clause-keeps
 returns-in-Err-clause-keeps g c = looks-keeps _ _ c.in-Err.ensures.looks
 
 pub returns-in-Err-clause-over : goal.returns-in-Err-clause-over
-returns-in-Err-clause-over g c = rw c.of.ensures (inl (unopened (g.M.Media.state c.args.media.now) (g.M.Media.state c.begin.new.media) c.args.name c.in-Err.status c.in-Err.ensures.none, c.in-Err.ensures.looks))
+returns-in-Err-clause-over g c = rw c.of.ensures (inl (unopened (g.M.Media.state c.args.media.now) (g.M.Media.state c.begin.new.media) c.args.name c.in-Err.status c.in-Err.ensures.none, c.in-Err.ensures.looks, (refl, refl, refl)))
 
 -- ---- it was found, and imported into
 
