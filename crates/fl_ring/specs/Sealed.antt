@@ -36,7 +36,7 @@ pub record SealsOnFlash (ring : Ring) (body : List ℕ) (old : FlashState) (resu
   pub outside : IsTrue old.media.tells → OutsideStands (shape_of ring) (page_at old) (page_at new)
   -- after an Ok the body and the mark of a commit were programmed over what the next page held
   pub page : OnOk result (IsTrue old.media.tells → page_at new (place (shape_of ring) (next_of ring)) ≡ sealed_over (shape_of ring) body (page_at old (place (shape_of ring) (next_of ring))))
-  -- .. and if the flash stood for the ring, with no page torn and no block due, the pages that are kept stand
+  -- .. and if the flash stood for the ring, with no page torn and no block that waits for its erase, the pages that are kept stand
   pub keeps : OnOk result (IsTrue old.media.tells → (s : RingState) → IsReady ring old s → (n : ℕ) → oldest (sealed (shape_of ring) s body) ≤ n → n < s.next
       → page_at new (place (shape_of ring) n) ≡ page_at old (place (shape_of ring) n))
   -- two programs, and an erase if the oldest block goes

@@ -50,9 +50,9 @@ pub record PutsPages {KNOTS SLOTS : ℕ} (old : LoggedTable KNOTS SLOTS) (f : Fl
   pub quiet : refusal ≡ None → NeedsNoOperation old blob → (result ≡ Ok tt) × (g ≡ f)
   -- another one is answered with lost power where the power is off, and nothing changes then
   pub off : refusal ≡ None → (NeedsNoOperation old blob → ⊥) → f.is_on ≡ false → (result ≡ Err (put.Flash PowerLost)) × (g ≡ f)
-  -- after an Ok the pending rows, if their page was full, were programmed over what it held, where it is in no other ring
+  -- after an Ok the pending rows, if their page was full, were programmed over what it held, where it is in no other ring and the flash tells its bytes
   pub sealed : OnOk result ((HasRoom (table_in old) → ⊥) → HasMadePage old blob f g)
-  -- and so was the row, behind those that stay, over what the log's next page held
+  -- and so was the row, behind those that stay, over what the log's next page held, where the flash tells its bytes
   pub log_page : OnOk result (PutLogged old row f g)
 
 -- What a flush leaves in memory.
@@ -73,5 +73,5 @@ pub record FlushesPage {KNOTS SLOTS : ℕ} (old : LoggedTable KNOTS SLOTS) (f : 
   pub quiet : is_running old ≡ true → pending_in (table_in old) ≡ 0 → (result ≡ Ok tt) × (new ≡ old) × (g ≡ f)
   -- else it is answered with lost power where the power is off, and the flash stays
   pub off : is_running old ≡ true → 1 ≤ pending_in (table_in old) → f.is_on ≡ false → (result ≡ Err (flush.Flash PowerLost)) × (g ≡ f)
-  -- after an Ok the rows that were pending were programmed over what their page held, where it is in no other ring
+  -- after an Ok the rows that were pending were programmed over what their page held, where it is in no other ring and the flash tells its bytes
   pub sealed : OnOk result (1 ≤ pending_in (table_in old) → HasFlushed (table_in old) f g)

@@ -29,9 +29,9 @@ pub record MountsFlash {KNOTS SLOTS : ℕ} (t : LoggedTable KNOTS SLOTS) (old : 
   pub goes : Goes old new
   -- after an Ok the power is on, if it was before
   pub power : OnOk result (old.is_on ≡ true → new.is_on ≡ true)
-  -- each page outside the rings stands
+  -- each page outside the rings stands, where the flash tells its bytes
   pub outside : IsTrue old.media.tells → OutsideStands t (page_at old) (page_at new)
-  -- at most four reads for each page of the rings
+  -- at most four reads for each page of the rings in all, where it tells them
   pub reads : IsTrue old.media.tells → FewReads (4 * pages_in t) old new
   -- a program and an erase for each ring at most, and with a log, whose rows may become a page, two more for each other one
   pub repairs : FewRepairs (repairs_in t) old new

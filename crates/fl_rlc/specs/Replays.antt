@@ -51,8 +51,8 @@ pub record ReplayFails {KNOTS SLOTS : ℕ} (log : RecordLog) (table : Table KNOT
   pub refused : IsTrue old.media.tells → RefusesLog (layout_in table) log old table fault new
   pub cause : MountCausedBy old fault new
 
--- What it does to the flash: the pages outside the rings and the log stand, each page of the log is read four times at most, and its
--- ring is repaired and the table's rings are sealed once at most.
+-- What it does to the flash: the pages outside the rings and the log stand, where the flash tells its bytes. There are at most four
+-- reads for each page of the log in all, and at most one program and one erase for its ring, and two of each for each ring of the table.
 pub record ReplayFlash {KNOTS SLOTS : ℕ} (log : RecordLog) (table : Table KNOTS SLOTS) (old new : FlashState) : Type 0 where
   pub goes : Goes old new
   pub outside : IsTrue old.media.tells → StandBeside table log (page_at old) (page_at new)

@@ -47,7 +47,7 @@ pub record PutsPage {KNOTS SLOTS : ℕ} (old : Table KNOTS SLOTS) (f : FlashStat
   pub quiet : refusal ≡ None → HasRoom old → pages_for old.blobs blob ≡ 0 → (result ≡ Ok tt) × (g ≡ f)
   -- another one is answered with lost power where the power is off, and nothing changes then
   pub off : refusal ≡ None → (HasRoom old → pages_for old.blobs blob ≡ 0 → ⊥) → f.is_on ≡ false → (result ≡ Err (put.Flash PowerLost)) × (g ≡ f)
-  -- after an Ok the pending rows, if their page was full, were programmed over what it held, where it is in no other ring
+  -- after an Ok the pending rows, if their page was full, were programmed over what it held, where it is in no other ring and the flash tells its bytes
   pub sealed : OnOk result ((HasRoom old → ⊥) → HasMadePage old blob f g)
 
 -- What a flush leaves in memory.
@@ -68,5 +68,5 @@ pub record FlushesPage {KNOTS SLOTS : ℕ} (old : Table KNOTS SLOTS) (f : FlashS
   pub quiet : is_running old ≡ true → pending_in old ≡ 0 → (result ≡ Ok tt) × (new ≡ old) × (g ≡ f)
   -- else it is answered with lost power where the power is off, and the flash stays
   pub off : is_running old ≡ true → 1 ≤ pending_in old → f.is_on ≡ false → (result ≡ Err (flush.Flash PowerLost)) × (g ≡ f)
-  -- after an Ok the rows that were pending were programmed over what their page held, where it is in no other ring
+  -- after an Ok the rows that were pending were programmed over what their page held, where it is in no other ring and the flash tells its bytes
   pub sealed : OnOk result (1 ≤ pending_in old → HasFlushed old f g)

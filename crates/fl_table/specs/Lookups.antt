@@ -44,8 +44,8 @@ pub record AnswersBy {KNOTS SLOTS : ℕ} (t : Table KNOTS SLOTS) (wanted : ℕ) 
   -- there is a row at the place that is answered, and where it isn't pending the buffer holds its page
   pub here : IfOk result (λ found. IfSome found (IsRowAt t buf_new))
   pub holds : IfOk result (λ found. IfSome found (HoldsIts t new buf_new))
-  -- a failure has its cause, and a bad page that is named for a covered key is the first one that is met: the newest bad one of the
-  -- window, and none behind it there begins with at most the key
+  -- a failure has its cause, and a bad page that is named for a covered key is the first one that is met: the newest bad one
+  -- that is kept before the end of the key's window, and none from it to there begins with at most the key
   pub fails : IfErr result (λ e. LookupFails t old e new)
   pub blames : is_covered_in t wanted ≡ true → IfErr result (BlamesFor t old wanted)
 
@@ -65,8 +65,8 @@ pub record AnswersPage {KNOTS SLOTS : ℕ} (t : Table KNOTS SLOTS) (wanted : ℕ
   pub answers : IsTrue old.media.tells → IfOk result (IsPageFor t (flashes.page_at old) wanted)
   -- the buffer holds it
   pub holds : IfOk result (λ page. IfSome page (λ number. HoldsKept t new number buf_new))
-  -- a failure has its cause, and a bad page that is named for a covered key is the first one that is met: the newest bad one of the
-  -- window, and none behind it there begins with at most the key
+  -- a failure has its cause, and a bad page that is named for a covered key is the first one that is met: the newest bad one
+  -- that is kept before the end of the key's window, and none from it to there begins with at most the key
   pub fails : IfErr result (λ e. LookupFails t old e new)
   pub blames : is_covered_in t wanted ≡ true → IfErr result (BlamesFor t old wanted)
 
