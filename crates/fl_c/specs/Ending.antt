@@ -1,9 +1,9 @@
 -- The numbers with which a call ends: those of a run's statuses, and two of the library's own.
 use Rattle.std.specs.Prelude.{◌≡◌, ℕ, ◌⊎◌}
+use Rattle.fl_ends.specs.declared.run.Status.{Status}
+use Rattle.fl_ends.specs.declared.run.Status.TheVariants.{Done, Usage, Line, ScriptRead, OutWrite, MediaMake, Config, OtherConfig, ScriptLong, NoMemory}
 use Rattle.fl_c.specs.declared.ending.Refusal.{Refusal}
 use Rattle.fl_c.specs.declared.ending.Refusal.TheVariants.{TooSmall, BadLength}
-use Rattle.fl_session.specs.declared.status.Status.{Status}
-use Rattle.fl_session.specs.declared.status.Status.TheVariants.{Done, Usage, Line, ScriptRead, OutWrite, MediaMake, Config, OtherConfig, ScriptLong, NoMemory}
 
 -- a buffer of the caller has no room for what the run left
 abbrev pub too_small : ℕ

@@ -1,11 +1,11 @@
 -- What a call did, by what its caller sees.
 use Rattle.std.specs.Prelude.{◌≡◌, ◌⊎◌, ℕ, ◌<◌, IsTrue, true, List, Some, [], length}
 use Rattle.fl_flash.specs.Media.{MediaState}
+use Rattle.fl_ends.specs.RunNumber.{number_of}
+use Rattle.fl_ends.specs.declared.run.Status.{Status}
+use Rattle.fl_ends.specs.declared.run.Status.TheVariants.{Usage, ScriptRead}
 use Rattle.fl_session.specs.CausedEach.{EndsCaused}
 use Rattle.fl_session.specs.Ends.{Ends, told_of}
-use Rattle.fl_session.specs.Number.{number_of}
-use Rattle.fl_session.specs.declared.status.Status.{Status}
-use Rattle.fl_session.specs.declared.status.Status.TheVariants.{Usage, ScriptRead}
 use Rattle.fl_c.specs.Ending.{line_of}
 
 -- a medium in memory that nothing was done on: it tells its bytes

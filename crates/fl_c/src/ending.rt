@@ -1,6 +1,6 @@
 // How a call ends, as its caller is told.
 ghost use Rattle.std.specs.Prelude.{◌≡◌, ◌≤◌, length, take};
-ghost use Rattle.fl_session.specs.Number.{number_of};
+ghost use Rattle.fl_ends.specs.RunNumber.{number_of};
 ghost use Rattle.fl_c.specs.Ending.{line_of, refused};
 
 use fl_session::Status;

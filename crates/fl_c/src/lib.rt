@@ -12,7 +12,7 @@ mod script;
 mod tests;
 
 ghost use Rattle.std.specs.Prelude.{◌≡◌, ◌≤◌, ◌<◌, ◌⊎◌, ◌↔◌, length, take};
-ghost use Rattle.fl_session.specs.Number.{number_of};
+ghost use Rattle.fl_ends.specs.RunNumber.{number_of};
 ghost use Rattle.fl_c.specs.Ending.{bad_length, too_small, IsOwn, line_of};
 ghost use Rattle.fl_c.specs.Ran.{IsTooLong, RanOver};
 

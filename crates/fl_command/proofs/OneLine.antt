@@ -5,19 +5,19 @@ use Rattle.fl_image.specs.Number as job_number
 use Rattle.fl_image.specs.declared.status.ToolStatus.{ToolStatus}
 use Rattle.fl_image.specs.declared.status.ToolStatus.TheVariants as job
 use Rattle.fl_salvage.specs.declared.passed_over.PassedOver.{PassedOver}
-use Rattle.fl_session.specs.Number as run_number
-use Rattle.fl_session.specs.declared.status.Status.{Status}
-use Rattle.fl_session.specs.declared.status.Status.TheVariants as run
-use Rattle.fl_shell.specs.Number as shell_number
-use Rattle.fl_shell.specs.declared.end.Flushed.{Flushed}
-use Rattle.fl_shell.specs.declared.end.ShellStatus.{ShellStatus}
-use Rattle.fl_shell.specs.declared.end.ShellStatus.TheVariants as shell
 use Rattle.fl_ship.specs.Number as ship_number
 use Rattle.fl_ship.specs.declared.status.ShipStatus.{ShipStatus}
 use Rattle.fl_ship.specs.declared.status.ShipStatus.TheVariants as ship
 use Rattle.fl_sizing.specs.Number as plan_number
 use Rattle.fl_sizing.specs.declared.end.PlanStatus.{PlanStatus}
 use Rattle.fl_sizing.specs.declared.end.PlanStatus.TheVariants as plan
+use Rattle.fl_ends.specs.RunNumber as run_number
+use Rattle.fl_ends.specs.declared.run.Status.{Status}
+use Rattle.fl_ends.specs.declared.run.Status.TheVariants as run
+use Rattle.fl_ends.specs.ShellNumber as shell_number
+use Rattle.fl_ends.specs.declared.shell.Flushed.{Flushed}
+use Rattle.fl_ends.specs.declared.shell.ShellStatus.{ShellStatus}
+use Rattle.fl_ends.specs.declared.shell.ShellStatus.TheVariants as shell
 use Rattle.fl_command.specs.Line.{FailuresHaveOneLine, is_line}
 use Rattle.fl_command.specs.Text.{plan_headline, run_headline, salvage_status_headline, shell_status_headline, ship_headline, status_headline}
 use Rattle.fl_command.specs.declared.exit.Exit.TheVariants.{Run, Shell, Plan, Job, Salvage, Ship, Words, Help, InUse, CopyInUse, CopyIsImage}

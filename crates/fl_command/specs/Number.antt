@@ -2,14 +2,14 @@
 use Rattle.std.specs.Prelude.{ℕ, None}
 use Rattle.fl_image.specs.Number as job
 use Rattle.fl_image.specs.declared.status.ToolStatus.TheVariants as job_status
-use Rattle.fl_session.specs.Number as run
-use Rattle.fl_session.specs.declared.status.Status.TheVariants as run_status
-use Rattle.fl_shell.specs.Number as shell
-use Rattle.fl_shell.specs.declared.end.ShellStatus.TheVariants as shell_status
 use Rattle.fl_ship.specs.Number as ship
 use Rattle.fl_ship.specs.declared.status.ShipStatus.TheVariants as ship_status
 use Rattle.fl_sizing.specs.Number as plan
 use Rattle.fl_sizing.specs.declared.end.PlanStatus.TheVariants as plan_status
+use Rattle.fl_ends.specs.RunNumber as run
+use Rattle.fl_ends.specs.declared.run.Status.TheVariants as run_status
+use Rattle.fl_ends.specs.ShellNumber as shell
+use Rattle.fl_ends.specs.declared.shell.ShellStatus.TheVariants as shell_status
 use Rattle.fl_command.specs.declared.exit.Exit.{Exit}
 use Rattle.fl_command.specs.declared.exit.Exit.TheVariants.{Run, Shell, Plan, Job, Salvage, Ship, Words, Help, InUse, CopyInUse, CopyIsImage}
 

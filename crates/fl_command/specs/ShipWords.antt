@@ -1,8 +1,8 @@
 -- The words of the command line that name a ship.
 use Rattle.std.specs.Prelude.{ℕ, ◌&&◌, Option, Some, None, Result, Ok, Err, List, [], ◌∷◌, codes, if◌then◌else◌}
 use Rattle.fl_model.specs.Record.{bytes_equal}
-use Rattle.fl_session.specs.Words.{is_image_name}
 use Rattle.fl_words.specs.Grammar.{LineFault, is_name, number_in}
+use Rattle.fl_ends.specs.Words.{is_image_name}
 use Rattle.fl_command.specs.declared.ship_words.ShipJob.{ShipJob}
 
 -- of a table, so many records at most

@@ -4,8 +4,8 @@ use Rattle.fl_csv.specs.declared.record.GoneBlobs.TheVariants.{Refused, LeftOut}
 use Rattle.fl_map.specs.declared.drawing.Drawing.TheVariants.{Text, Svg}
 use Rattle.fl_model.specs.Record.{bytes_equal}
 use Rattle.fl_queries.specs.Keys.{all_keys}
-use Rattle.fl_session.specs.Words.{is_image_name}
 use Rattle.fl_words.specs.Grammar.{LineFault, is_name, number}
+use Rattle.fl_ends.specs.Words.{is_image_name}
 use Rattle.fl_command.specs.declared.words.ToolJob.{ToolJob}
 use Rattle.fl_command.specs.declared.words.ToolJob.TheVariants.{Check, CheckAll, Export, Import, Salvage, Map}
 

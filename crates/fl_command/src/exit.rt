@@ -9,11 +9,10 @@ use crate::lines::{
 use crate::shell_lines::{ShellExplanation, ShellHeadline};
 use crate::ship_lines::{ShipExplanation, ShipHeadline};
 use fl_base::SinkFailed;
+use fl_ends::{ShellEnd, ShellStatus, Status};
 use fl_image::ToolStatus;
 use fl_import::JobEnd;
 use fl_salvage::SalvageEnd;
-use fl_session::Status;
-use fl_shell::{ShellEnd, ShellStatus};
 use fl_ship::ShipStatus;
 use fl_sizing::PlanStatus;
 use std::fmt::{self, Display};

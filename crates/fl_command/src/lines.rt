@@ -2,10 +2,10 @@
 // failed, and the explanation below it.
 use crate::pending_line::PendingLine;
 use fl_csv::LineForm;
+use fl_ends::Status;
 use fl_image::ToolStatus;
 use fl_import::{JobEnd, LinesTaken};
 use fl_salvage::{PassedOver, SalvageEnd};
-use fl_session::Status;
 use fl_sizing::PlanStatus;
 use std::fmt::{self, Display};
 

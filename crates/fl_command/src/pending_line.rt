@@ -3,7 +3,7 @@ ghost use Rattle.std.specs.Prelude.{◌≡◌};
 ghost use Rattle.fl_command.specs.Text.{behind};
 
 use fl_base::Name;
-use fl_session::{PendingRows, TableRows};
+use fl_ends::{PendingRows, TableRows};
 use std::fmt::{self, Display};
 use std::str;
 

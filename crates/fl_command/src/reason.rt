@@ -1,10 +1,10 @@
 // Why a run ended so.
 ghost use Rattle.std.specs.Prelude.{◌≡◌};
 
+use fl_ends::Status;
 use fl_flash::Media;
 use fl_reason::{Reason, Tail, config_reason, header_reason, line_reason};
 use fl_script::LineRoom;
-use fl_session::Status;
 use std::alloc::Global;
 
 /// Why a run of a script ended so, where a line of it or the image is refused. None where nothing more is known: for the other

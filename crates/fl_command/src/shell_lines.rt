@@ -1,8 +1,7 @@
 // What standard error says of a shell: the headline, and the explanation below it.
 use crate::lines::{Meaning, RunExplanation, RunHeadline, StatusHeadline};
+use fl_ends::{Flushed, ShellEnd, ShellStatus, Status};
 use fl_image::ToolStatus;
-use fl_session::Status;
-use fl_shell::{Flushed, ShellEnd, ShellStatus};
 use std::fmt::{self, Display};
 
 /// The line of a shell that ended so; where all went well, how many rows were flushed at its end, if any were pending.

@@ -1,7 +1,7 @@
 // What standard error says of a ship: the headline, and the explanation below it.
 use crate::lines::{Meaning, RunHeadline};
+use fl_ends::Status;
 use fl_image::ToolStatus;
-use fl_session::Status;
 use fl_ship::{ShipStatus, Side};
 use std::fmt::{self, Display};
 

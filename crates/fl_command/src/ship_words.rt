@@ -1,13 +1,13 @@
 // The words of the command line that name a ship.
 ghost use Rattle.std.specs.Prelude.{◌≡◌, ◌≤◌, IfSome, codes, length, map, string_bytes, false, None, Some, Err, Ok, MatchOption, ◌&&◌, if◌then◌else◌};
+ghost use Rattle.fl_ends.specs.Words.{is_image_name};
 ghost use Rattle.fl_model.specs.Record.{bytes_equal};
-ghost use Rattle.fl_session.specs.Words.{is_image_name};
 ghost use Rattle.fl_words.specs.Grammar as grammar;
 ghost use Rattle.fl_command.specs.ShipWords.{records_named, ship_named};
 
 use crate::words::{is_word, name, number};
 use fl_base::Name;
-use fl_session::names_image;
+use fl_ends::names_image;
 
 /// A ship of records of a table from the image that the second word names to the copy that the third one names.
 #[derive(Clone, Copy)]

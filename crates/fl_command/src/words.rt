@@ -1,16 +1,16 @@
 // The words of the command line that name a job.
 ghost use Rattle.std.specs.Prelude.{◌≡◌, ◌≤◌, ◌∷◌, [], length, map, string_bytes, codes, IfSome, MatchOption, true, false, Ok, Err, if◌then◌else◌, ◌&&◌, Some, None};
 ghost use Rattle.fl_csv.specs.declared.record.GoneBlobs.{GoneBlobs};
+ghost use Rattle.fl_ends.specs.Words.{is_image_name};
 ghost use Rattle.fl_model.specs.Record.{bytes_equal};
-ghost use Rattle.fl_session.specs.Words.{is_image_name};
 ghost use Rattle.fl_words.specs.Grammar as grammar;
 ghost use Rattle.fl_command.specs.Words.{alone_named, export_named, job_named, short_named, table_named};
 ghost use Rattle.fl_command.specs.declared.words.ToolJob.{ToolJob};
 
 use fl_base::{KeyRange, Name};
 use fl_csv::GoneBlobs;
+use fl_ends::names_image;
 use fl_map::Drawing;
-use fl_session::names_image;
 
 /// A job over an image, whose name is the second word.
 #[derive(Clone, Copy)]

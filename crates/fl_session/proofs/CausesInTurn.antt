@@ -10,14 +10,14 @@ use Rattle.fl_model.specs.Record.{Config}
 use Rattle.fl_words.specs.Command.{Command}
 use Rattle.fl_words.specs.Config.{Lines, whole}
 use Rattle.fl_script.specs.declared.command.Command as code
+use Rattle.fl_ends.specs.declared.run.Status.{Status}
+use Rattle.fl_ends.specs.declared.run.Status.TheVariants.{MediaMake, OtherConfig}
 use Rattle.fl_session.specs.Begin.{BeginsAt}
 use Rattle.fl_session.specs.Caused.{Caused, IsPowered, State}
 use Rattle.fl_session.specs.CausedEach.{CausedEach, CausedInto, EndsCaused, IsNewSession, RunOver, SessionOver, causes_of}
 use Rattle.fl_session.specs.Opening.{MediaGoes, Opened, OpensAs}
 use Rattle.fl_session.specs.Run.{RunsFrom, refused_status}
 use Rattle.fl_session.specs.Told.{TellsRows}
-use Rattle.fl_session.specs.declared.status.Status.{Status}
-use Rattle.fl_session.specs.declared.status.Status.TheVariants.{MediaMake, OtherConfig}
 use Rattle.fl_session.proofs.RunEnds.{ends-making, ends-of_run, ends-other, runs-seen}
 
 caused-more : (commands : List Command) (command : Command) (old mid new : State) (told told_mid told_now : Option (List ℕ)) → CausedEach commands old mid told told_mid → IsPowered mid → Caused {E = SinkFailed} command mid new told_mid told_now (Ok tt) →

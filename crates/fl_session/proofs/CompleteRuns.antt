@@ -8,11 +8,11 @@ use Rattle.fl_words.specs.Medium.{header}
 use Rattle.fl_machine.specs.Script.{Ready}
 use Rattle.fl_config.specs.Opening.{Differs}
 use Rattle.fl_store.specs.NewImage.{new_image}
+use Rattle.fl_ends.specs.declared.run.Status.{Status}
+use Rattle.fl_ends.specs.declared.run.Status.TheVariants.{Done, Usage, Line, ScriptRead, OutWrite, MediaMake, Config as BadConfiguration, OtherConfig, ScriptLong, NoMemory}
 use Rattle.fl_session.specs.Complete.{IsInPlace, Completes}
 use Rattle.fl_session.specs.Ends.{Told, Ends, IsOwn, IsOther, RunsAll, IsNew, effects_of}
 use Rattle.fl_session.specs.ScriptEnds.{EndsDone, EndsLine, EndsConfig, EndsOther}
-use Rattle.fl_session.specs.declared.status.Status.{Status}
-use Rattle.fl_session.specs.declared.status.Status.TheVariants.{Done, Usage, Line, ScriptRead, OutWrite, MediaMake, Config as BadConfiguration, OtherConfig, ScriptLong, NoMemory}
 
 own-other : (config : Config) (content : List ℕ) (wanted found at : ℕ) → IsOwn config content → IsOther config content wanted found at → ⊥
 own-other config content wanted found at (inl e) h = h.0 e

@@ -1,5 +1,7 @@
 -- The lines of a configuration, one after another.
 use Rattle.std.proofs.Common.{◌≡◌, ℕ, ◌+◌, ◌<◌, Bool, true, false, Option, Some, None, Result, Ok, Err, List, [], ◌∷◌, ◌++◌, length, drop, refl, sym, ◌∙◌, ap, subst, append_assoc, append-nil, length-append, arith, if◌then◌else◌, IfOk, IfErr}
+use Rattle.fl_ends.specs.declared.run.Status.{Status}
+use Rattle.fl_ends.specs.declared.run.Status.TheVariants.{Line, ScriptRead, Config as BadConfiguration, ScriptLong}
 use Rattle.fl_session.specs.declared.begin.Begun.{Begun}
 use Rattle.std.proofs.lemmas.Bool.{le-ltb, ltb-false, false≢true, true≢false}
 use Rattle.fl_words.specs.Command as words
@@ -21,8 +23,6 @@ use Rattle.fl_session.specs.Loop.{Tail}
 use Rattle.fl_session.specs.Begin.{IsFresh, GoesOn, EndsIt, Refuses, AtCommand, AtEnd, EndsInConfig, EndsBegin, BeginsAt, ConfiguresBy, HoldsFirst}
 use Rattle.fl_lines.specs.declared.lines.LinesFault.{LinesFault}
 use Rattle.fl_lines.specs.declared.lines.LinesFault.TheVariants.{Failed, Long}
-use Rattle.fl_session.specs.declared.status.Status.{Status}
-use Rattle.fl_session.specs.declared.status.Status.TheVariants.{Line, ScriptRead, Config as BadConfiguration, ScriptLong}
 use Rattle.fl_lines.proofs.LinesInTurn.{given-few, given-over, given-none, given-all, given-taken, given-most}
 use Rattle.fl_session.proofs.AcceptedLines.{Configures, configures-none, configures-end, configures-line, configures-more, too_long-command}
 use Rattle.fl_session.proofs.Loops.{NextLine, fits, too_long, next_line}

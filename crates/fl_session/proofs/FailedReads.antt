@@ -6,15 +6,15 @@ use Rattle.fl_machine.specs.Machine.{Machine}
 use Rattle.fl_model.specs.Record.{Config}
 use Rattle.fl_words.specs.Command.{Command}
 use Rattle.fl_words.specs.Config.{Lines}
+use Rattle.fl_ends.specs.declared.pending.PendingRows.{PendingRows}
+use Rattle.fl_ends.specs.declared.run.Status.{Status}
+use Rattle.fl_ends.specs.declared.run.Status.TheVariants.{Done, Line, ScriptRead, OutWrite, Config as BadConfiguration, ScriptLong}
 use Rattle.fl_session.specs.Begin.{ConfiguresBy, IsOfScript}
 use Rattle.fl_session.specs.Caused.{State}
 use Rattle.fl_session.specs.Next.{EndsThere}
 use Rattle.fl_session.specs.Pending.{TellsPending}
 use Rattle.fl_session.specs.Run.{IsOfCommands}
 use Rattle.fl_session.specs.Told.{TellsRows}
-use Rattle.fl_session.specs.declared.pending.PendingRows.{PendingRows}
-use Rattle.fl_session.specs.declared.status.Status.{Status}
-use Rattle.fl_session.specs.declared.status.Status.TheVariants.{Done, Line, ScriptRead, OutWrite, Config as BadConfiguration, ScriptLong}
 
 -- ---- the line that was asked for
 

@@ -9,12 +9,12 @@ use Rattle.fl_lines.specs.Stream.{LinesState, Gives, TakesPart, TakesAhead}
 use Rattle.std.proofs.Math.Seq.{drop-append_seam}
 use Rattle.fl_script.specs.declared.command.Command as code
 use Rattle.fl_script.specs.CommandView.{command_view}
+use Rattle.fl_ends.specs.declared.run.Status.{Status}
+use Rattle.fl_ends.specs.declared.run.Status.TheVariants.{Line, ScriptRead, ScriptLong}
 use Rattle.fl_session.specs.Next.{EndsThere, NextRun}
 use Rattle.fl_session.specs.Loop.{Tail, TakesTail, TailTakes, lines_in, EndsAll, EndsBad, EndsInReply, EndsTaken, EndsCommands}
 use Rattle.fl_lines.specs.declared.lines.LinesFault.{LinesFault}
 use Rattle.fl_lines.specs.declared.lines.LinesFault.TheVariants.{Failed, Long}
-use Rattle.fl_session.specs.declared.status.Status.{Status}
-use Rattle.fl_session.specs.declared.status.Status.TheVariants.{Line, ScriptRead, ScriptLong}
 use Rattle.fl_lines.specs.Given.{Given}
 use Rattle.fl_lines.proofs.LinesInTurn.{given-few, given-over, given-none, given-line, given-last, given-all, given-taken, given-most, given-too_long, IsTooLong}
 use Rattle.fl_session.proofs.AcceptedLines.{AllRun, all_run-none, all_run-more, all_run-all, all_run-refused, accepted-more, too_long-command}

@@ -6,8 +6,8 @@ use Rattle.fl_words.specs.Grammar.{command_of}
 use Rattle.fl_machine.specs.Script.{runs, runs_read, runs_command}
 use Rattle.fl_lines.specs.declared.lines.LinesFault.{LinesFault}
 use Rattle.fl_lines.specs.declared.lines.LinesFault.TheVariants.{Failed, Long}
-use Rattle.fl_session.specs.declared.status.Status.{Status}
-use Rattle.fl_session.specs.declared.status.Status.TheVariants.{Line}
+use Rattle.fl_ends.specs.declared.run.Status.{Status}
+use Rattle.fl_ends.specs.declared.run.Status.TheVariants.{Line}
 use Rattle.fl_session.specs.Next.{EndsThere, IsRefused, IsRead, IsToRun, is_config_line}
 
 pub ends-there : (given : Result Bool LinesFault) (line : List ℕ) (number : ℕ) (P Q : Type 0) (status : Status) → (P → Q) → EndsThere given line number P status → EndsThere given line number Q status

@@ -11,8 +11,9 @@ use Rattle.fl_machine.proofs.Accepted.{StartIsAccepted, accepted-room, accepted-
 use Rattle.fl_script.specs.declared.command.Command as code
 use Rattle.fl_store.specs.Tables.{LieOn}
 use Rattle.fl_store.specs.declared.tables.Entry.{Entry}
-use Rattle.fl_session.specs.declared.status.Status.{Status}
 use Rattle.fl_lines.specs.Stream.{LinesState}
+use Rattle.fl_ends.specs.declared.run.Status.{Status}
+use Rattle.fl_ends.specs.declared.run.Status.TheVariants.{Usage, MediaMake, NoMemory, OtherConfig, OutWrite, ScriptRead}
 use Rattle.fl_session.specs.Notes.{no_notes}
 use Rattle.fl_session.specs.declared.notes.Notes.{Notes}
 use Rattle.fl_queries.specs.Room.{AreForgotten, HasRooms}
@@ -20,7 +21,6 @@ use Rattle.fl_session.specs.Standing.{SessionStands, IsSound, RestsTold}
 use Rattle.fl_session.specs.declared.notes.TableCursor.{TableCursor}
 use Rattle.fl_queries.specs.declared.buffers.Buffers.{Buffers}
 use Rattle.fl_session.specs.Run.{RanFrom, around_of, IsOfCommands, refused_status}
-use Rattle.fl_session.specs.declared.status.Status.TheVariants.{Usage, MediaMake, NoMemory, OtherConfig, OutWrite, ScriptRead}
 use Rattle.fl_config.specs.declared.image.ImageRefusal.{ImageRefusal}
 use Rattle.fl_config.specs.declared.image.ImageRefusal.TheVariants.{Media, Other}
 use Rattle.fl_base.specs.Causes.{Rose}

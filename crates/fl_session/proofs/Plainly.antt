@@ -17,10 +17,10 @@ use Rattle.fl_machine.specs.Step.{Moment}
 use Rattle.fl_machine.proofs.Determined.{determined}
 use Rattle.fl_machine.proofs.Faults.{faults-caused}
 use Rattle.fl_machine.proofs.Operations.{exact}
+use Rattle.fl_ends.specs.declared.run.Status.{Status}
+use Rattle.fl_ends.specs.declared.run.Status.TheVariants.{Done}
 use Rattle.fl_session.specs.Determined.{IsUncut, IsPlainRun, RanPlainly, RanPlainlyInto}
 use Rattle.fl_session.specs.Pending.{pending_of, TellsPending, EndsAt}
-use Rattle.fl_session.specs.declared.status.Status.{Status}
-use Rattle.fl_session.specs.declared.status.Status.TheVariants.{Done}
 
 -- a count that didn't rise
 none-risen : (n before now : ℕ) → (Rose before now → ⊥) → RoseBy n before now → n ≡ 0

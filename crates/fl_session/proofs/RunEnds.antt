@@ -10,6 +10,9 @@ use Rattle.fl_machine.specs.Script.{Start, Ready, Unended, BadLine, BadConfig, s
 use Rattle.fl_machine.specs.WholeReads.{RanReading, RanIntoReading}
 use Rattle.fl_lines.specs.Texts.{most_bytes, whole_lines, rest_of, lines_read, lines_within, is_long}
 use Rattle.fl_lines.specs.Stream.{LinesState}
+use Rattle.fl_ends.specs.declared.pending.PendingRows.{PendingRows}
+use Rattle.fl_ends.specs.declared.run.Status.{Status}
+use Rattle.fl_ends.specs.declared.run.Status.TheVariants.{Done, Line, ScriptRead, OutWrite, MediaMake, Config as BadConfiguration, OtherConfig, ScriptLong}
 use Rattle.fl_session.specs.Execute.{Around, IsReady, StandsAlike, RanAll, RanPart}
 use Rattle.fl_session.specs.Loop.{Tail, TakesTail, TailTakes, lines_in, EndsCommands}
 use Rattle.fl_session.specs.Taken.{TakesLine, TakesBegin, IsUnended}
@@ -22,10 +25,7 @@ use Rattle.fl_session.specs.Run.{tail_of, RanFrom, RunsFrom, IsOfCommands}
 use Rattle.fl_session.specs.Begin.{AtCommand, AtEnd, EndsBegin, BeginsAt}
 use Rattle.fl_session.specs.Ends.{Told, IsOwn, IsFormed, RunsAll, RunsInto, effects_of, Ends, IsEarlyBy}
 use Rattle.fl_session.specs.Pending.{EndsAt}
-use Rattle.fl_session.specs.declared.pending.PendingRows.{PendingRows}
 use Rattle.fl_session.specs.ScriptEnds.{Effects, unsaid, start_in, EndsEarly, EndsDone, EndsLine, EndsInto, EndsConfig, EndsMaking, EndsOther, EndsWith, ScriptEnds}
-use Rattle.fl_session.specs.declared.status.Status.{Status}
-use Rattle.fl_session.specs.declared.status.Status.TheVariants.{Done, Line, ScriptRead, OutWrite, MediaMake, Config as BadConfiguration, OtherConfig, ScriptLong}
 use Rattle.fl_session.proofs.ConfigLines.{command-takes}
 use Rattle.fl_session.proofs.NextCommand.{ran-seen, ran_into-seen}
 use Rattle.fl_session.proofs.Ready.{after-alike}

@@ -25,13 +25,13 @@ use Rattle.fl_table.specs.declared.table.Table.{Table}
 use Rattle.fl_store.specs.Tables.{first_of, EntryStands, TablesStand}
 use Rattle.fl_store.specs.declared.tables.Entry.{Entry}
 use Rattle.fl_store.proofs.TablesChanged.{at-place}
+use Rattle.fl_ends.specs.declared.pending.TableRows.{TableRows}
 use Rattle.fl_session.specs.Answer.{IsReached, Refusal}
 use Rattle.fl_session.specs.Held.{TellsTable, TellsLast, TellsCounts, TellsRings}
 use Rattle.fl_session.specs.Pending.{rows_of, pending_of}
 use Rattle.fl_queries.specs.OldestTold.{OldestIn}
 use Rattle.fl_session.specs.Told.{rows_there}
 use Rattle.fl_session.specs.declared.notes.Notes.{Notes}
-use Rattle.fl_session.specs.declared.pending.TableRows.{TableRows}
 use Rattle.fl_session.specs.Standing.{SessionStands}
 use Rattle.fl_session.proofs.NamedTable.{own-of, own-none}
 use Rattle.fl_store.proofs.Queried.{stands-unlogged}

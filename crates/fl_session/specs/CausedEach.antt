@@ -8,12 +8,12 @@ use Rattle.fl_words.specs.Command.{Command}
 use Rattle.fl_words.specs.Config.{Lines, whole}
 use Rattle.fl_store.specs.Store.{IsOpened}
 use Rattle.fl_store.specs.Tables.{AreNewTables}
+use Rattle.fl_ends.specs.declared.run.Status.{Status}
 use Rattle.fl_session.specs.Caused.{Caused, IsPowered, State}
 use Rattle.fl_session.specs.Notes.{no_notes}
 use Rattle.fl_session.specs.Opening.{Foreign, HalfOpened, MediaGoes, Opened}
 use Rattle.fl_session.specs.ScriptEnds.{Effects, EndsWith}
 use Rattle.fl_session.specs.Told.{TellsRows}
-use Rattle.fl_session.specs.declared.status.Status.{Status}
 
 -- A session over a medium that was just made for these lines: its tables were never mounted, no cursor is open, no cost is noted. Its
 -- flash is on, no cut is armed, and nothing was done on it.

@@ -4,12 +4,12 @@ use Rattle.fl_base.specs.Causes.{Appends}
 use Rattle.fl_model.specs.Record.{Config}
 use Rattle.fl_words.specs.Command.{Command}
 use Rattle.fl_machine.specs.Script.{Ready, accepted, first_refused}
+use Rattle.fl_ends.specs.declared.run.Status.{Status}
+use Rattle.fl_ends.specs.declared.run.Status.TheVariants.{Done, Usage, Line, ScriptRead, OutWrite, MediaMake, Config as BadConfiguration, OtherConfig, ScriptLong, NoMemory}
 use Rattle.fl_session.specs.Ends.{Told, RunsAll}
 use Rattle.fl_session.specs.ScriptEnds.{start_in}
 use Rattle.fl_lines.specs.Texts.{most_bytes}
 use Rattle.fl_store.specs.NewImage.{new_image}
-use Rattle.fl_session.specs.declared.status.Status.{Status}
-use Rattle.fl_session.specs.declared.status.Status.TheVariants.{Done, Usage, Line, ScriptRead, OutWrite, MediaMake, Config as BadConfiguration, OtherConfig, ScriptLong, NoMemory}
 
 -- The lines of the script are all in the grammar and in their places: the first ones make this configuration, which is
 -- accepted, and those behind them are these commands.

@@ -16,8 +16,8 @@ use Rattle.fl_machine.specs.Script.{KeepsReads, StandsAfter}
 use Rattle.fl_machine.specs.Small.{most_of_a_command}
 use Rattle.fl_machine.specs.Stays.{StaysEach}
 use Rattle.fl_machine.specs.Step.{Moment}
+use Rattle.fl_ends.specs.declared.run.Status.{Status}
 use Rattle.fl_session.specs.Pending.{EndsAt}
-use Rattle.fl_session.specs.declared.status.Status.{Status}
 
 -- no cut falls into an operation of the plain machine
 abbrev pub IsUncut : Config → Machine → List Command → Type 0

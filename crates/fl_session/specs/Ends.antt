@@ -11,11 +11,11 @@ use Rattle.fl_machine.specs.Script.{Start, Ready, Unended, BadLine, BadConfig, S
 use Rattle.fl_machine.specs.WholeReads.{RanReading, RanIntoReading}
 use Rattle.fl_config.specs.Opening.{Differs}
 use Rattle.fl_store.specs.NewImage.{new_image, made_image}
+use Rattle.fl_ends.specs.declared.run.Status.{Status}
+use Rattle.fl_ends.specs.declared.run.Status.TheVariants.{Usage, MediaMake, Config as BadConfiguration, OtherConfig, NoMemory}
 use Rattle.fl_session.specs.Determined.{IsUncut, RanPlainly, RanPlainlyInto}
 use Rattle.fl_session.specs.Pending.{EndsAt}
 use Rattle.fl_session.specs.ScriptEnds.{Effects, EndsWith}
-use Rattle.fl_session.specs.declared.status.Status.{Status}
-use Rattle.fl_session.specs.declared.status.Status.TheVariants.{Usage, MediaMake, Config as BadConfiguration, OtherConfig, NoMemory}
 
 -- what the outside tells before and after: the medium's content, what the source has left, the bytes that are written,
 -- and how often the medium failed and was read

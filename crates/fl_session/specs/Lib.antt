@@ -3,7 +3,6 @@ pub mod Runnable
 pub mod ScriptEnds
 pub mod Taken
 pub mod Ends
-pub mod Number
 pub mod Execute
 pub mod Next
 pub mod Loop

@@ -5,8 +5,8 @@ use Rattle.fl_words.specs.Command.{Command}
 use Rattle.fl_machine.specs.Script.{accepted, first_refused}
 use Rattle.fl_lines.specs.Taken.{HasTaken, TakesWithin}
 use Rattle.fl_lines.specs.Texts.{whole_lines, rest_of, lines_within}
-use Rattle.fl_session.specs.declared.status.Status.{Status}
-use Rattle.fl_session.specs.declared.status.Status.TheVariants.{Done, Usage, Line, ScriptRead, OutWrite, MediaMake, Config, OtherConfig, ScriptLong, NoMemory}
+use Rattle.fl_ends.specs.declared.run.Status.{Status}
+use Rattle.fl_ends.specs.declared.run.Status.TheVariants.{Done, Usage, Line, ScriptRead, OutWrite, MediaMake, Config, OtherConfig, ScriptLong, NoMemory}
 
 -- a script from a line on: the line and its number, the text behind it and how much of it may be read, and whether the
 -- line was the last one

@@ -8,9 +8,9 @@ use Rattle.fl_script.specs.declared.command.Command.{Command}
 use Rattle.fl_script.specs.CommandView.{command_view}
 use Rattle.fl_lines.specs.declared.lines.LinesFault.{LinesFault}
 use Rattle.fl_lines.specs.declared.lines.LinesFault.TheVariants.{Failed, Long}
-use Rattle.fl_session.specs.declared.status.Status.{Status}
-use Rattle.fl_session.specs.declared.status.Status.TheVariants.{Line, ScriptRead, ScriptLong}
 use Rattle.fl_lines.specs.Stream.{LinesState, Advances}
+use Rattle.fl_ends.specs.declared.run.Status.{Status}
+use Rattle.fl_ends.specs.declared.run.Status.TheVariants.{Line, ScriptRead, ScriptLong}
 use Rattle.fl_session.specs.Runnable.{is_within, IsRunnable}
 
 abbrev pub is_config_line : words.Command → Bool

@@ -4,9 +4,9 @@ use Rattle.fl_model.specs.Record.{Plan, Config}
 use Rattle.fl_model.specs.Table.{Table}
 use Rattle.fl_machine.specs.Machine.{Machine}
 use Rattle.fl_machine.specs.Script.{StandsAfter}
-use Rattle.fl_session.specs.declared.pending.TableRows.{TableRows}
-use Rattle.fl_session.specs.declared.status.Status.{Status}
-use Rattle.fl_session.specs.declared.status.Status.TheVariants.{Done}
+use Rattle.fl_ends.specs.declared.pending.TableRows.{TableRows}
+use Rattle.fl_ends.specs.declared.run.Status.{Status}
+use Rattle.fl_ends.specs.declared.run.Status.TheVariants.{Done}
 
 -- a table of which so many rows are pending, if any are
 abbrev pub rows_of : List ℕ → ℕ → Option TableRows

@@ -5,9 +5,9 @@ use Rattle.fl_words.specs.Command.{Command}
 use Rattle.fl_machine.specs.Script.{Start, Ready, Unended, BadLine, BadConfig, start_of, ended, accepted, first_refused}
 use Rattle.fl_lines.specs.Taken.{HasTaken}
 use Rattle.fl_lines.specs.Texts.{most_bytes, whole_lines, rest_of, is_long, lines_read}
+use Rattle.fl_ends.specs.declared.run.Status.{Status}
+use Rattle.fl_ends.specs.declared.run.Status.TheVariants.{Done, Usage, Line, ScriptRead, OutWrite, MediaMake, Config as BadConfiguration, OtherConfig, ScriptLong, NoMemory}
 use Rattle.fl_session.specs.Taken.{TakesLine, TakesBegin}
-use Rattle.fl_session.specs.declared.status.Status.{Status}
-use Rattle.fl_session.specs.declared.status.Status.TheVariants.{Done, Usage, Line, ScriptRead, OutWrite, MediaMake, Config as BadConfiguration, OtherConfig, ScriptLong, NoMemory}
 
 -- how the configuration of a script ends; the end of a long one isn't reached
 abbrev pub start_in : ℕ → List ℕ → Start

@@ -5,12 +5,12 @@ use Rattle.fl_script.specs.declared.reply.Reply.{Reply}
 use Rattle.fl_table.specs.Memory.{pending_in}
 use Rattle.fl_store.specs.declared.tables.Entry.{Entry}
 use Rattle.fl_queries.specs.OldestTold.{OldestIn}
+use Rattle.fl_ends.specs.declared.pending.TableRows.{TableRows}
+use Rattle.fl_ends.specs.declared.run.Status.{Status}
+use Rattle.fl_ends.specs.declared.run.Status.TheVariants.{Done}
 use Rattle.fl_session.specs.Answer.{Refusal}
 use Rattle.fl_session.specs.Caused.{IsHere, OnlyLooks, State}
 use Rattle.fl_session.specs.Pending.{rows_of}
-use Rattle.fl_session.specs.declared.pending.TableRows.{TableRows}
-use Rattle.fl_session.specs.declared.status.Status.{Status}
-use Rattle.fl_session.specs.declared.status.Status.TheVariants.{Done}
 
 -- This is told of the table of this name, which is here and mounted; or else why a command on it is refused.
 abbrev pub TellsOf : {A : Type 0} → State → List ℕ → (Entry → A → Type 0) → Result A Reply → Type 0

@@ -8,10 +8,10 @@ ghost use Rattle.fl_session.specs.Runnable.{is_within};
 ghost use Rattle.fl_session.specs.Next as words;
 ghost use Rattle.fl_session.specs.Begin.{ConfiguresBy, IsFresh, BeginsAt, EndsBegin, HoldsFirst, IsOfScript};
 
-use crate::Status;
 use crate::next::{is_config, next_command};
 use fl_base::Source;
 use fl_config::Config;
+use fl_ends::Status;
 use fl_lines::Lines;
 use fl_script::{Command, LineRoom};
 

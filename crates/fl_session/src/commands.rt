@@ -13,10 +13,10 @@ ghost use Rattle.fl_session.specs.Run.{IsOfCommands, around_of, tail_of};
 ghost use Rattle.fl_session.specs.Told.{TellsRows};
 ghost use Rattle.fl_machine.specs.Machine.{Machine};
 
-use crate::Status;
 use crate::executor::Executor;
 use crate::next::next_run;
 use fl_base::{Sink, Source};
+use fl_ends::Status;
 use fl_lines::Lines;
 use fl_script::{Command, LineRoom};
 

@@ -18,8 +18,8 @@ ghost use Rattle.fl_session.specs.Runnable.{IsRunnable};
 ghost use Rattle.fl_session.specs.Told.{OldestSays, TellsOf, pending_rows};
 ghost use Rattle.fl_table.specs.Look.{counts_in, last_key_in};
 
-use crate::PendingRows;
 use fl_base::{Name, Sink, SinkFailed};
+use fl_ends::PendingRows;
 use fl_rlc::RingCounts;
 use fl_script::{Command, LineRoom, Reply};
 use fl_table::TableCounts;

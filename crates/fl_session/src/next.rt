@@ -3,8 +3,8 @@ ghost use Rattle.std.specs.Prelude.{◌≡◌, ℕ, List};
 ghost use Rattle.fl_script.specs.CommandView.{command_view};
 ghost use Rattle.fl_session.specs.Next.{NextCommand, NextRun, is_config_line};
 
-use crate::Status;
 use fl_base::Source;
+use fl_ends::Status;
 use fl_lines::{Lines, LinesFault};
 use fl_script::{Command, LineRoom, read_line};
 

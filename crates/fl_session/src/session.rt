@@ -19,13 +19,13 @@ ghost use Rattle.fl_session.specs.Cost.{ReadsMount};
 ghost use Rattle.fl_session.specs.Execute.{Executes};
 ghost use Rattle.fl_session.specs.Notes.{no_notes};
 
-use crate::PendingRows;
 use crate::cost::Cost;
 use crate::executor::Executor;
 use crate::load::load;
 use crate::notes::{NO_CURSORS, Notes};
 use crate::replies::{cost_reply, flush_breaks, mount_reply, put_breaks};
 use fl_base::{KeyRange, Name, Sink, SinkFailed, Span};
+use fl_ends::PendingRows;
 use fl_flash::{Flash, Media, SimFlash};
 use fl_queries::{Buffers, Comparison, Operator, list_rows, look_up, oldest_blob, show_blob};
 use fl_rlc::RingCounts;

@@ -2,22 +2,14 @@
 ghost use Rattle.std.specs.Prelude.{◌≡◌, ℕ, List, map, string_bytes, codes};
 ghost use Rattle.std.specs.Option.{option_copied};
 ghost use Rattle.fl_model.specs.Record.{bytes_equal};
-ghost use Rattle.fl_session.specs.Words.{image_named, is_image_name};
+ghost use Rattle.fl_session.specs.Words.{image_named};
+
+use fl_ends::names_image;
 
 fn is_run(word: &str) -> bool
     ensures { result ≡ bytes_equal word.now (codes "run") }
 {
     word == "run"
-}
-
-/// Whether the word can be the name of an image: it isn't empty and doesn't begin with a dash.
-pub fn names_image(word: &str) -> bool
-    ensures { result ≡ is_image_name word.now }
-{
-    match word.as_bytes() {
-        [] => false,
-        [first, ..] => *first != b'-',
-    }
 }
 
 /// The image that the words name: `run`, and one word that isn't empty and doesn't begin with a dash.

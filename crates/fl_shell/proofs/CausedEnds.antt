@@ -7,6 +7,9 @@ use Rattle.fl_flash.specs.Media.{MediaState}
 use Rattle.fl_image.specs.Image.{OnlyLooksAt}
 use Rattle.fl_lines.specs.Stream.{LinesState}
 use Rattle.fl_model.specs.Record.{Config}
+use Rattle.fl_ends.specs.declared.shell.Flushed.{Flushed}
+use Rattle.fl_ends.specs.declared.shell.ShellStatus.{ShellStatus}
+use Rattle.fl_ends.specs.declared.shell.ShellStatus.TheVariants.{Done, InputRead, OutWrite, InputLong, MediaMake, Unconfigured, NotImage, Unflushed}
 use Rattle.fl_session.specs.Caused.{State}
 use Rattle.fl_session.specs.CausedEach.{IsNewSession, SessionOver}
 use Rattle.fl_session.specs.Opening.{MediaGoes, Opened}
@@ -19,9 +22,6 @@ use Rattle.fl_shell.specs.Leading.{BeginsAs, others_of}
 use Rattle.fl_shell.specs.Statuses.{IsOfSession, IsOfTalk, behind, opening_status}
 use Rattle.fl_shell.specs.Talking.{EndsBy, TellsFlushed}
 use Rattle.fl_shell.specs.declared.begin.Begun.{Begun}
-use Rattle.fl_shell.specs.declared.end.Flushed.{Flushed}
-use Rattle.fl_shell.specs.declared.end.ShellStatus.{ShellStatus}
-use Rattle.fl_shell.specs.declared.end.ShellStatus.TheVariants.{Done, InputRead, OutWrite, InputLong, MediaMake, Unconfigured, NotImage, Unflushed}
 use Rattle.fl_shell.proofs.EarlyEnds.{BeginsOn}
 use Rattle.fl_shell.proofs.TalkEnds.{ends-behind, ends-map}
 

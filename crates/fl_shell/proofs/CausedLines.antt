@@ -5,6 +5,7 @@ use Rattle.fl_lines.specs.Stream.{LinesState}
 use Rattle.fl_lines.specs.declared.lines.LinesFault.{LinesFault}
 use Rattle.fl_lines.specs.declared.lines.LinesFault.TheVariants.{Failed, Long}
 use Rattle.fl_machine.specs.Script.{runs}
+use Rattle.fl_ends.specs.declared.shell.ShellStatus.TheVariants.{Done, OutWrite}
 use Rattle.fl_session.specs.Caused.{State}
 use Rattle.fl_words.specs.Grammar.{lines_of}
 use Rattle.fl_shell.specs.Caused.{CausedBy, CausedIf, CausedLine, CausedLines, CausedOwn, CausedRun}
@@ -12,7 +13,6 @@ use Rattle.fl_shell.specs.Own.{Own, own_of}
 use Rattle.fl_shell.specs.Reading.{AsksNext, IsGivenAs, IsLeft, rest_in}
 use Rattle.fl_shell.specs.Statuses.{reading_status}
 use Rattle.fl_shell.specs.Talking.{EndsBy, with_hand}
-use Rattle.fl_shell.specs.declared.end.ShellStatus.TheVariants.{Done, OutWrite}
 use Rattle.fl_shell.proofs.LongLines.{long-own, long-runs}
 
 -- ---- one line

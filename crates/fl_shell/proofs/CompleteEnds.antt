@@ -9,6 +9,9 @@ use Rattle.fl_image.specs.Image.{IsImageOf, OnlyLooksAt}
 use Rattle.fl_image.proofs.Made.{made-by, makes-of}
 use Rattle.fl_model.specs.Image.{medium_len}
 use Rattle.fl_model.specs.Record.{Config}
+use Rattle.fl_ends.specs.declared.shell.Flushed.{Flushed}
+use Rattle.fl_ends.specs.declared.shell.ShellStatus.{ShellStatus}
+use Rattle.fl_ends.specs.declared.shell.ShellStatus.TheVariants.{Done, InputRead, OutWrite, MediaMake, Unconfigured, InputLong, NoMemory, NotImage, Unflushed}
 use Rattle.fl_session.specs.Ends.{Told}
 use Rattle.fl_session.specs.Opening.{OpensAs}
 use Rattle.fl_words.specs.Config.{Lines, no_lines}
@@ -18,9 +21,6 @@ use Rattle.fl_shell.specs.Complete.{Completes, IsConfigured}
 use Rattle.fl_shell.specs.Ends.{IsEarlyBy, ShellEnds, Unbegun}
 use Rattle.fl_shell.specs.Input.{InputEnds}
 use Rattle.fl_shell.specs.Statuses.{IsOfSession, opening_status}
-use Rattle.fl_shell.specs.declared.end.Flushed.{Flushed}
-use Rattle.fl_shell.specs.declared.end.ShellStatus.{ShellStatus}
-use Rattle.fl_shell.specs.declared.end.ShellStatus.TheVariants.{Done, InputRead, OutWrite, MediaMake, Unconfigured, InputLong, NoMemory, NotImage, Unflushed}
 
 -- ---- lines lead to one configuration
 

@@ -11,6 +11,10 @@ use Rattle.fl_image.proofs.Made.{makes-of}
 use Rattle.fl_lines.specs.Stream.{LinesState}
 use Rattle.fl_machine.proofs.Accepted.{IsAccepted}
 use Rattle.fl_model.specs.Record.{Config}
+use Rattle.fl_ends.specs.declared.shell.Flushed.{Flushed}
+use Rattle.fl_ends.specs.declared.shell.ShellEnd.{ShellEnd}
+use Rattle.fl_ends.specs.declared.shell.ShellStatus.{ShellStatus}
+use Rattle.fl_ends.specs.declared.shell.ShellStatus.TheVariants.{MediaMake, InputRead, OutWrite, Unconfigured, InputLong, NoMemory, NotImage}
 use Rattle.fl_session.specs.Ends.{Told, IsOther, IsUntouched, told_of}
 use Rattle.fl_session.specs.Opening.{MediaGoes, OpensAs}
 use Rattle.fl_session.proofs.NextCommand.{nothing-added}
@@ -23,10 +27,6 @@ use Rattle.fl_shell.specs.Ends.{BeginsWith, ShellEnds, Unbegun, UnbegunInto, non
 use Rattle.fl_shell.specs.Leading.{BeginsAs, Led, LedInto, LeavesOn, others_of}
 use Rattle.fl_shell.specs.Statuses.{opening_status}
 use Rattle.fl_shell.specs.declared.begin.Begun.{Begun}
-use Rattle.fl_shell.specs.declared.end.Flushed.{Flushed}
-use Rattle.fl_shell.specs.declared.end.ShellEnd.{ShellEnd}
-use Rattle.fl_shell.specs.declared.end.ShellStatus.{ShellStatus}
-use Rattle.fl_shell.specs.declared.end.ShellStatus.TheVariants.{MediaMake, InputRead, OutWrite, Unconfigured, InputLong, NoMemory, NotImage}
 use Rattle.fl_shell.proofs.Accepted.{header-accepted, leads-accepted}
 
 -- ---- the configuration

@@ -4,9 +4,9 @@ use Rattle.std.specs.Prelude.{IfErr}
 use Rattle.fl_base.specs.Causes.{Rose}
 use Rattle.fl_lines.specs.declared.lines.LinesFault.{LinesFault}
 use Rattle.fl_lines.specs.declared.lines.LinesFault.TheVariants.{Failed, Long}
+use Rattle.fl_ends.specs.declared.shell.ShellStatus.{ShellStatus}
+use Rattle.fl_ends.specs.declared.shell.ShellStatus.TheVariants.{Done, InputRead, OutWrite, InputLong, Unconfigured}
 use Rattle.fl_shell.specs.Statuses.{IsOfLines, IsOfTalk, reading_status}
-use Rattle.fl_shell.specs.declared.end.ShellStatus.{ShellStatus}
-use Rattle.fl_shell.specs.declared.end.ShellStatus.TheVariants.{Done, InputRead, OutWrite, InputLong, Unconfigured}
 use Rattle.fl_shell.specs.declared.talk.Next.TheVariants.{InHand, Unread, Ended}
 use Rattle.fl_shell.proofs.CompleteEnds.{rose-after}
 

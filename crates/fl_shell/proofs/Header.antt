@@ -9,13 +9,13 @@ use Rattle.fl_image.specs.declared.status.ToolStatus.TheVariants as tool
 use Rattle.fl_lines.specs.Stream.{LinesState}
 use Rattle.fl_words.specs.Config.{Lines}
 use Rattle.fl_words.specs.Grammar.{lines_of}
+use Rattle.fl_ends.specs.declared.shell.ShellStatus.{ShellStatus}
+use Rattle.fl_ends.specs.declared.shell.ShellStatus.TheVariants.{MediaMake, NotImage}
 use Rattle.fl_shell.specs.Leading.{BeginsAs, LeavesOn}
 use Rattle.fl_shell.specs.Reading.{IsLeft, rest_in}
 use Rattle.fl_shell.specs.Statuses.{header_status}
 use Rattle.fl_shell.specs.Talking.{lines_from}
 use Rattle.fl_shell.specs.declared.begin.Begun.{Begun}
-use Rattle.fl_shell.specs.declared.end.ShellStatus.{ShellStatus}
-use Rattle.fl_shell.specs.declared.end.ShellStatus.TheVariants.{MediaMake, NotImage}
 use Rattle.fl_shell.specs.declared.talk.Next.{Next}
 use Rattle.fl_shell.specs.declared.talk.Next.TheVariants.{Unread, Ended}
 

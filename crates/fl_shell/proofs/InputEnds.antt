@@ -7,13 +7,13 @@ use Rattle.fl_config.specs.declared.image.ImageRefusal.TheVariants.{Media, Other
 use Rattle.fl_lines.specs.Stream.{LinesState}
 use Rattle.fl_lines.specs.declared.lines.LinesFault.{LinesFault}
 use Rattle.fl_lines.specs.declared.lines.LinesFault.TheVariants.{Failed, Long}
+use Rattle.fl_ends.specs.declared.shell.ShellStatus.{ShellStatus}
+use Rattle.fl_ends.specs.declared.shell.ShellStatus.TheVariants.{Done, InputRead, OutWrite, MediaMake, Unconfigured, InputLong, NotImage}
 use Rattle.fl_shell.specs.Input.{InputBegins, InputEnds}
 use Rattle.fl_shell.specs.Leading.{LeadsAs}
 use Rattle.fl_shell.specs.Reading.{AsksNext, IsLeft}
 use Rattle.fl_shell.specs.Statuses.{behind, opening_status, reading_status}
 use Rattle.fl_shell.specs.declared.begin.Begun.{Begun}
-use Rattle.fl_shell.specs.declared.end.ShellStatus.{ShellStatus}
-use Rattle.fl_shell.specs.declared.end.ShellStatus.TheVariants.{Done, InputRead, OutWrite, MediaMake, Unconfigured, InputLong, NotImage}
 use Rattle.fl_shell.specs.declared.talk.Next.TheVariants.{Unread}
 use Rattle.fl_shell.proofs.Header.{header-leaves}
 

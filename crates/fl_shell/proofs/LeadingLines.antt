@@ -16,6 +16,7 @@ use Rattle.fl_script.specs.CommandView.{command_view}
 use Rattle.fl_script.specs.Written.{Written}
 use Rattle.fl_script.specs.declared.command.Command as script
 use Rattle.fl_script.proofs.SinkPieces.{appends-append}
+use Rattle.fl_ends.specs.declared.shell.ShellStatus.TheVariants.{OutWrite, Unconfigured}
 use Rattle.fl_session.proofs.NextCommand.{nothing-added}
 use Rattle.fl_shell.specs.Begin.{Step, Ends, Refuses, IsEnded, Leads, LeadsBy, LeadsTo, step_asked, step_command, step_config, step_of, step_own}
 use Rattle.fl_shell.specs.Leading.{LeadsAs, LeavesOn, Led, TakesBy, going_on}
@@ -27,7 +28,6 @@ use Rattle.fl_shell.specs.Talking.{lines_from}
 use Rattle.fl_shell.specs.declared.begin.Begun.{Begun}
 use Rattle.fl_shell.specs.declared.begin.Step as begin
 use Rattle.fl_shell.specs.declared.own.Own as code
-use Rattle.fl_shell.specs.declared.end.ShellStatus.TheVariants.{OutWrite, Unconfigured}
 use Rattle.fl_shell.specs.declared.talk.Next.TheVariants.{InHand, Ended}
 use Rattle.fl_shell.proofs.LongLines.{long-own, long-read}
 

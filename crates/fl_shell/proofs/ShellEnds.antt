@@ -7,6 +7,9 @@ use Rattle.fl_lines.specs.Stream.{LinesState}
 use Rattle.fl_machine.specs.Machine.{Machine}
 use Rattle.fl_machine.specs.Script.{StandsFor, StandsAfter}
 use Rattle.fl_model.specs.Record.{Config}
+use Rattle.fl_ends.specs.declared.shell.Flushed.{Flushed}
+use Rattle.fl_ends.specs.declared.shell.ShellStatus.{ShellStatus}
+use Rattle.fl_ends.specs.declared.shell.ShellStatus.TheVariants.{Done, InputRead, InputLong, OutWrite, Unflushed}
 use Rattle.fl_session.specs.Ends.{told_of}
 use Rattle.fl_session.specs.Execute.{IsReady, StandsAlike}
 use Rattle.fl_session.specs.Opening.{KeepsForm, MediaGoes, Opened}
@@ -22,9 +25,6 @@ use Rattle.fl_shell.specs.Reading.{IsLeft, rest_in}
 use Rattle.fl_shell.specs.Statuses.{IsOfSession}
 use Rattle.fl_shell.specs.Talking.{MediumEnds}
 use Rattle.fl_shell.specs.declared.begin.Begun.{Begun}
-use Rattle.fl_shell.specs.declared.end.Flushed.{Flushed}
-use Rattle.fl_shell.specs.declared.end.ShellStatus.{ShellStatus}
-use Rattle.fl_shell.specs.declared.end.ShellStatus.TheVariants.{Done, InputRead, InputLong, OutWrite, Unflushed}
 use Rattle.fl_shell.proofs.EarlyEnds.{BeginsOn}
 use Rattle.fl_shell.proofs.TalkEnds.{medium-over}
 

@@ -3,13 +3,13 @@ use Rattle.std.proofs.Common.{◌≡◌, ℕ, ◌≤◌, Bool, true, false, Opti
 use Rattle.fl_model.specs.Record.{Config}
 use Rattle.fl_machine.specs.Machine.{Machine}
 use Rattle.fl_machine.specs.Step.{Moment}
+use Rattle.fl_ends.specs.declared.shell.Flushed.{Flushed}
+use Rattle.fl_ends.specs.declared.shell.ShellStatus.{ShellStatus}
+use Rattle.fl_ends.specs.declared.shell.ShellStatus.TheVariants.{Done, InputRead, OutWrite, InputLong, Unflushed}
 use Rattle.fl_shell.specs.Flushing.{FlushesBehind}
 use Rattle.fl_shell.specs.Statuses.{IsOfTalk, behind}
 use Rattle.fl_shell.specs.Talk.{RanOver, Talked, moments_of}
 use Rattle.fl_shell.specs.Talking.{Answered, EndsBy, MediumEnds, TalkEnds, TellsFlushed}
-use Rattle.fl_shell.specs.declared.end.Flushed.{Flushed}
-use Rattle.fl_shell.specs.declared.end.ShellStatus.{ShellStatus}
-use Rattle.fl_shell.specs.declared.end.ShellStatus.TheVariants.{Done, InputRead, OutWrite, InputLong, Unflushed}
 use Rattle.fl_shell.proofs.AnsweredLines.{causes-earlier, causes-later}
 use Rattle.fl_shell.proofs.Ran.{over-seen}
 

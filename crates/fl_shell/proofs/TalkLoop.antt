@@ -12,13 +12,13 @@ use Rattle.fl_machine.specs.Machine.{Machine}
 use Rattle.fl_machine.specs.Run.{end_of}
 use Rattle.fl_machine.specs.Script.{runs}
 use Rattle.fl_machine.specs.Small.{AreTables}
+use Rattle.fl_ends.specs.declared.shell.ShellStatus.TheVariants.{Done, OutWrite}
 use Rattle.fl_session.specs.Execute.{IsReady, StandsAlike}
 use Rattle.fl_shell.specs.Reading.{AsksNext, IsGivenAs, IsLeft, rest_in}
 use Rattle.fl_shell.specs.Statuses.{reading_status}
 use Rattle.fl_shell.specs.Talk.{Answers, AnswersAs, AnswersRun, Turn, answers_of, moments_of}
 use Rattle.fl_shell.specs.Talking.{Answered, OfFront, TalkEnds, TalkedSoFar, with_hand}
 use Rattle.fl_shell.specs.Turning.{Says, Turns, TurnsIf, command_by, command_for}
-use Rattle.fl_shell.specs.declared.end.ShellStatus.TheVariants.{Done, OutWrite}
 use Rattle.fl_shell.proofs.LongLines.{long-own, long-runs}
 use Rattle.fl_shell.proofs.Ran.{ran-kept, ran-stands}
 use Rattle.fl_shell.proofs.AnsweredLines.{answered-into, answered-whole, causes-later, talked-more, talked-none}

@@ -8,6 +8,7 @@ use Rattle.fl_rlc.specs.Table.{table_in}
 use Rattle.fl_script.specs.ReplyView.{reply_text}
 use Rattle.fl_script.specs.Written.{Written}
 use Rattle.fl_script.specs.declared.reply.Reply as code
+use Rattle.fl_ends.specs.declared.shell.Flushed.{Flushed}
 use Rattle.fl_session.specs.Answer.{Refusal}
 use Rattle.fl_session.specs.Caused as session
 use Rattle.fl_session.specs.Caused.{IsHere, OnlyLooks, State}
@@ -23,7 +24,6 @@ use Rattle.fl_words.specs.Reply.{text}
 use Rattle.fl_shell.specs.Own.{Own, Echo, First, Last, Describe, Misformed, own_of}
 use Rattle.fl_shell.specs.Refusal.{Refuses, line_of}
 use Rattle.fl_shell.specs.Talk.{groups_of, key_text}
-use Rattle.fl_shell.specs.declared.end.Flushed.{Flushed}
 
 -- ---- one line
 

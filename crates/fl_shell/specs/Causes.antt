@@ -4,6 +4,9 @@ use Rattle.fl_base.specs.Causes.{Appends}
 use Rattle.fl_flash.specs.Media.{MediaState}
 use Rattle.fl_image.specs.Image.{OnlyLooksAt}
 use Rattle.fl_model.specs.Record.{Config, Plan}
+use Rattle.fl_ends.specs.declared.shell.Flushed.{Flushed}
+use Rattle.fl_ends.specs.declared.shell.ShellStatus.{ShellStatus}
+use Rattle.fl_ends.specs.declared.shell.ShellStatus.TheVariants.{Done, InputRead, OutWrite, InputLong, Unflushed}
 use Rattle.fl_session.specs.CausedEach.{SessionOver}
 use Rattle.fl_session.specs.Opening.{MediaGoes, Opened}
 use Rattle.fl_words.specs.Config.{Lines, whole}
@@ -11,9 +14,6 @@ use Rattle.fl_words.specs.Grammar.{lines_of}
 use Rattle.fl_shell.specs.Caused.{TalkedOver}
 use Rattle.fl_shell.specs.Ends.{BeginsWith, none_pending}
 use Rattle.fl_shell.specs.Talking.{EndsBy, TellsFlushed}
-use Rattle.fl_shell.specs.declared.end.Flushed.{Flushed}
-use Rattle.fl_shell.specs.declared.end.ShellStatus.{ShellStatus}
-use Rattle.fl_shell.specs.declared.end.ShellStatus.TheVariants.{Done, InputRead, OutWrite, InputLong, Unflushed}
 
 -- the names of a configuration's tables, in their order
 abbrev pub names_of : Lines → List (List ℕ)

@@ -1,11 +1,11 @@
 -- An input over an image, or over an empty medium that its leading lines configure, is answered to its end.
 use Rattle.std.specs.Prelude.{ℕ, List}
 use Rattle.fl_model.specs.Record.{Config}
+use Rattle.fl_ends.specs.declared.shell.Flushed.{Flushed}
+use Rattle.fl_ends.specs.declared.shell.ShellStatus.{ShellStatus}
+use Rattle.fl_ends.specs.declared.shell.ShellStatus.TheVariants.{Done, NoMemory, Unflushed}
 use Rattle.fl_session.specs.Ends.{Told}
 use Rattle.fl_shell.specs.Ends.{BeginsWith, ShellEnds}
-use Rattle.fl_shell.specs.declared.end.Flushed.{Flushed}
-use Rattle.fl_shell.specs.declared.end.ShellStatus.{ShellStatus}
-use Rattle.fl_shell.specs.declared.end.ShellStatus.TheVariants.{Done, NoMemory, Unflushed}
 
 -- there is a configuration: that of the image with this content, or over an empty one that of the leading lines
 abbrev pub IsConfigured : ℕ → List ℕ → List (List ℕ) → Type 0

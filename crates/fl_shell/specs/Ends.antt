@@ -9,15 +9,15 @@ use Rattle.fl_machine.specs.Machine.{Machine}
 use Rattle.fl_machine.specs.Script.{StandsFor, StandsAfter}
 use Rattle.fl_model.specs.Image.{medium_len}
 use Rattle.fl_model.specs.Record.{Config}
+use Rattle.fl_ends.specs.declared.shell.Flushed.{Flushed}
+use Rattle.fl_ends.specs.declared.shell.ShellStatus.{ShellStatus}
+use Rattle.fl_ends.specs.declared.shell.ShellStatus.TheVariants.{Done, InputRead, OutWrite, MediaMake, Unconfigured, InputLong, NoMemory, NotImage, Unflushed}
 use Rattle.fl_session.specs.Ends.{Told, IsFormed, IsUntouched}
 use Rattle.fl_words.specs.Config.{Lines, no_lines, whole}
 use Rattle.fl_words.specs.Grammar.{lines_of}
 use Rattle.fl_store.specs.NewImage.{made_image}
 use Rattle.fl_shell.specs.Begin.{Leads, LeadsTo, IsEnded, step_of}
 use Rattle.fl_shell.specs.Talking.{MediumEnds, OfFront}
-use Rattle.fl_shell.specs.declared.end.Flushed.{Flushed}
-use Rattle.fl_shell.specs.declared.end.ShellStatus.{ShellStatus}
-use Rattle.fl_shell.specs.declared.end.ShellStatus.TheVariants.{Done, InputRead, OutWrite, MediaMake, Unconfigured, InputLong, NoMemory, NotImage, Unflushed}
 
 -- the front of the lines leads to this configuration, which the first of the others ends
 abbrev pub LeadsFront : Lines → List (List ℕ) → List (List ℕ) → List ℕ → Type 0

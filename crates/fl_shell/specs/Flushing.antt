@@ -10,9 +10,9 @@ use Rattle.fl_machine.specs.Reads.{none_read}
 use Rattle.fl_machine.specs.Run.{end_of, commands_of}
 use Rattle.fl_machine.specs.Script.{Ran}
 use Rattle.fl_machine.specs.Step.{Moment}
+use Rattle.fl_ends.specs.declared.shell.Flushed.{Flushed}
 use Rattle.fl_session.specs.Execute.{Executes}
 use Rattle.fl_shell.specs.Talk.{FlushesAll, IsDone, RanOver}
-use Rattle.fl_shell.specs.declared.end.Flushed.{Flushed}
 
 -- the table is flushed, and it is told whether the answer was `ok`
 pub record FlushesOne (config : Config) (m : Machine) (name : List ℕ) (stands : Machine → Type 0) (flash flash_now : FlashState) (done : Bool) : Type 0 where

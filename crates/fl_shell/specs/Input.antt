@@ -1,10 +1,10 @@
 -- What a status tells of the input, whatever the medium is.
 use Rattle.std.specs.Prelude.{◌≡◌, ℕ, ◌^◌, ◌<◌, Option, Some, Result, Ok, Err, List, []}
 use Rattle.fl_lines.specs.Stream.{LinesState}
+use Rattle.fl_ends.specs.declared.shell.ShellStatus.{ShellStatus}
+use Rattle.fl_ends.specs.declared.shell.ShellStatus.TheVariants.{Done, Unconfigured, InputLong, Unflushed}
 use Rattle.fl_shell.specs.Leading.{LeavesOn}
 use Rattle.fl_shell.specs.declared.begin.Begun.{Begun}
-use Rattle.fl_shell.specs.declared.end.ShellStatus.{ShellStatus}
-use Rattle.fl_shell.specs.declared.end.ShellStatus.TheVariants.{Done, Unconfigured, InputLong, Unflushed}
 
 -- it was read to its end, or it is too long; `total` is its length
 abbrev pub InputEnds : ℕ → Option (List ℕ) → ShellStatus → Type 0

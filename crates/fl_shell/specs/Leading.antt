@@ -7,13 +7,13 @@ use Rattle.fl_image.specs.Image.{IsImageOf}
 use Rattle.fl_lines.specs.Stream.{LinesState}
 use Rattle.fl_words.specs.Config.{Lines, no_lines}
 use Rattle.fl_words.specs.Grammar.{lines_of}
+use Rattle.fl_ends.specs.declared.shell.ShellStatus.{ShellStatus}
+use Rattle.fl_ends.specs.declared.shell.ShellStatus.TheVariants.{InputRead, OutWrite, MediaMake, Unconfigured, InputLong, NotImage}
 use Rattle.fl_shell.specs.Begin.{Step, Ends, Leads, LeadsBy, LeadsTo, IsEnded, step_of}
 use Rattle.fl_shell.specs.Reading.{IsGivenAs, IsLeft, rest_in}
 use Rattle.fl_shell.specs.Talking.{OfFront, lines_from}
 use Rattle.fl_shell.specs.declared.begin.Begun.{Begun}
 use Rattle.fl_shell.specs.declared.begin.Step as code
-use Rattle.fl_shell.specs.declared.end.ShellStatus.{ShellStatus}
-use Rattle.fl_shell.specs.declared.end.ShellStatus.TheVariants.{InputRead, OutWrite, MediaMake, Unconfigured, InputLong, NotImage}
 use Rattle.fl_shell.specs.declared.talk.Next.TheVariants.{Ended}
 
 -- the lines go on where the answer was written

@@ -1,5 +1,4 @@
 pub mod Words
-pub mod Number
 pub mod Refusal
 pub mod Own
 pub mod OwnView

@@ -26,8 +26,8 @@ use Rattle.fl_words.specs.Command.{Command}
 use Rattle.fl_words.specs.Reply as reply
 use Rattle.fl_words.specs.Reply.{Reply, text, texts}
 use Rattle.fl_words.specs.Medium.{device_text, table_text}
+use Rattle.fl_ends.specs.declared.shell.Flushed.{Flushed}
 use Rattle.fl_shell.specs.Refusal.{IsRefusal, line_of}
-use Rattle.fl_shell.specs.declared.end.Flushed.{Flushed}
 use Rattle.fl_shell.specs.Own.{Own, Echo, First, Last, Describe, Misformed, own_of}
 
 -- What was done for a line: the command that the machine executed for it, if any, the bytes that were written, and where pages were

@@ -5,14 +5,14 @@ use Rattle.fl_base.specs.Causes.{Appends}
 use Rattle.fl_flash.specs.Flash.{FlashState}
 use Rattle.fl_model.specs.Record.{Config}
 use Rattle.fl_machine.specs.Machine.{Machine}
+use Rattle.fl_ends.specs.declared.shell.Flushed.{Flushed}
+use Rattle.fl_ends.specs.declared.shell.ShellStatus.{ShellStatus}
+use Rattle.fl_ends.specs.declared.shell.ShellStatus.TheVariants.{Done, InputRead, InputLong, OutWrite, Unflushed}
 use Rattle.fl_shell.specs.Flushing.{RanThese}
 use Rattle.fl_machine.specs.Script.{KeepsReads}
 use Rattle.fl_shell.specs.Talk.{Turn, AnswersEach, AreWritten, HasCauses, RanOver, Talked, answers_of, moments_of}
-use Rattle.fl_shell.specs.declared.end.Flushed.{Flushed}
 use Rattle.fl_shell.specs.declared.talk.Next.{Next}
 use Rattle.fl_shell.specs.declared.talk.Next.TheVariants.{InHand, Unread, Ended}
-use Rattle.fl_shell.specs.declared.end.ShellStatus.{ShellStatus}
-use Rattle.fl_shell.specs.declared.end.ShellStatus.TheVariants.{Done, InputRead, InputLong, OutWrite, Unflushed}
 
 -- these lines were answered, and what the machine executed is a run of it
 pub record TalkedSoFar (config : Config) (old : Machine) (lines : List (List ℕ)) (stands : Machine → Type 0) (content : List ℕ) (faults : ℕ) (flash : FlashState) (told told_now : Option (List ℕ)) : Type 0 where

@@ -16,7 +16,6 @@ ghost use Rattle.fl_shell.specs.Reading.{IsLeft, rest_in};
 ghost use Rattle.fl_shell.specs.Refusal.{Refuses};
 ghost use Rattle.fl_shell.specs.Statuses.{IsOfLines, header_status};
 
-use crate::ShellStatus;
 use crate::answer::write_line;
 use crate::next_line::next_line;
 use crate::own::{Own, own_of};
@@ -24,6 +23,7 @@ use crate::refusal::refuse;
 use crate::talk::{Next, status_of};
 use fl_base::{Sink, SinkFailed, Source};
 use fl_config::Config;
+use fl_ends::ShellStatus;
 use fl_flash::Media;
 use fl_image::{ToolStatus, config_of_image};
 use fl_lines::Lines;

@@ -10,10 +10,10 @@ ghost use Rattle.fl_shell.specs.Causes.{names_of};
 ghost use Rattle.fl_shell.specs.Flushing.{FlushesBehind, FlushesOne};
 ghost use Rattle.fl_shell.specs.Talk.{RanOver, pending_in, pending_rows};
 
-use crate::Flushed;
 use crate::heard::Heard;
 use fl_base::Name;
 use fl_config::Config;
+use fl_ends::Flushed;
 use fl_script::{Command, LineRoom, is};
 use fl_session::Executor;
 

@@ -5,7 +5,6 @@
 mod answer;
 mod begin;
 mod describe;
-mod end;
 mod flush;
 mod heard;
 mod next_line;
@@ -15,6 +14,6 @@ mod talk;
 mod whole_shell;
 mod words;
 
-pub use end::{Flushed, ShellEnd, ShellStatus};
+pub use fl_ends::{Flushed, ShellEnd, ShellStatus};
 pub use whole_shell::shell;
 pub use words::shell_of;

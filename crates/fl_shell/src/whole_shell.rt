@@ -28,9 +28,9 @@ ghost use Rattle.fl_shell.specs.Talking.{MediumEnds, lines_from};
 
 use crate::begin::{Begun, begin};
 use crate::talk::{Next, talk_and_flush};
-use crate::{ShellEnd, ShellStatus};
 use fl_base::{Sink, Source};
 use fl_config::ImageRefusal;
+use fl_ends::{ShellEnd, ShellStatus};
 use fl_flash::Media;
 use fl_lines::Lines;
 use fl_script::LineRoom;

@@ -4,7 +4,7 @@ ghost use Rattle.std.specs.Option.{option_copied};
 ghost use Rattle.fl_model.specs.Record.{bytes_equal};
 ghost use Rattle.fl_shell.specs.Words.{shell_named};
 
-use fl_session::names_image;
+use fl_ends::names_image;
 
 fn is_shell(word: &str) -> bool
     ensures { result ≡ bytes_equal word.now (codes "shell") }

@@ -1,5 +1,5 @@
 use Rattle.std.proofs.Common.{refl, sym, ap, take, ℕ, Some, inl, inr}
-use Rattle.fl_session.specs.declared.status.Status.TheVariants.{NoMemory}
+use Rattle.fl_ends.specs.declared.run.Status.TheVariants.{NoMemory}
 use Rattle.fl_c.specs.Ran.{medium_of}
 use Rattle.fl_c.proofs.flashts_run.Goals as goal
 

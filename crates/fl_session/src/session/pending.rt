@@ -6,8 +6,8 @@ ghost use Rattle.fl_session.specs.Pending.{pending_of};
 ghost use Rattle.fl_session.specs.Told.{pending_at};
 
 use super::Session;
-use crate::TableRows;
 use crate::executor::Executor;
+use fl_ends::TableRows;
 use fl_flash::Media;
 
 impl<'m, M: Media> Session<'m, M> {

@@ -1,5 +1,5 @@
 use Rattle.std.proofs.Common.{◌≡◌, Err, ap}
-use Rattle.fl_shell.specs.declared.end.ShellStatus.TheVariants.{NotImage}
+use Rattle.fl_ends.specs.declared.shell.ShellStatus.TheVariants.{NotImage}
 use Rattle.fl_shell.proofs.Header.{header-causes, header-none}
 use Rattle.fl_shell.proofs.begin.of_header.Goals as goal
 

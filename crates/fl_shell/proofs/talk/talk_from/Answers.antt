@@ -1,13 +1,13 @@
 use Rattle.std.proofs.Common.{◌≡◌, ◌∙◌, Some, refl, ap, sym, subst}
 use Rattle.std.proofs.Math.Nat.{le_refl}
 use Rattle.fl_frame.proofs.CallsInTurn.{goes-same, stays}
+use Rattle.fl_ends.specs.declared.shell.ShellStatus.TheVariants.{Done}
 use Rattle.fl_session.specs.Execute.{StandsAlike}
 use Rattle.fl_words.specs.Grammar.{lines_of}
 use Rattle.fl_shell.specs.Reading.{rest_in}
 use Rattle.fl_shell.specs.Caused.{CausedBy}
 use Rattle.fl_shell.specs.Talking.{EndsBy, TalkEnds, lines_from}
 use Rattle.fl_shell.specs.declared.talk.Next.TheVariants.{Ended}
-use Rattle.fl_shell.specs.declared.end.ShellStatus.TheVariants.{Done}
 use Rattle.fl_shell.proofs.FailedReads.{done-read, done-write, hand-open, unread-open}
 use Rattle.fl_shell.proofs.TalkLoop.{talk-ended}
 use Rattle.fl_shell.proofs.talk.talk_from.Goals as goal

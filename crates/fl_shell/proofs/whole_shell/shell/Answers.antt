@@ -1,9 +1,9 @@
 use Rattle.std.proofs.Common.{inl, Ok, Err, refl, sym, ◌∙◌, ap, length, subst, le_trans}
 use Rattle.std.proofs.Math.Nat.{le_refl}
+use Rattle.fl_ends.specs.declared.shell.ShellStatus.TheVariants.{NoMemory}
 use Rattle.fl_session.specs.Ends.{told_of}
 use Rattle.fl_session.proofs.Over.{media-goes_on}
 use Rattle.fl_shell.specs.Input.{InputEnds}
-use Rattle.fl_shell.specs.declared.end.ShellStatus.TheVariants.{NoMemory}
 use Rattle.fl_shell.proofs.CompleteEnds.{completes, completes-none, looks-early, memory-make, memory-read, memory-write, rose-after}
 use Rattle.fl_shell.proofs.EarlyEnds.{begin-failed, ends-of, looks-goes, untouched}
 use Rattle.fl_shell.proofs.ShellEnds.{unread-begins, unread-few, unread-left, unread-short}

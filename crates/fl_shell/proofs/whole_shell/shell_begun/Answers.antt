@@ -6,12 +6,12 @@ use Rattle.fl_words.specs.Medium.{header}
 use Rattle.fl_image.proofs.Made.{whole-of, makes-of}
 use Rattle.fl_image.proofs.Reach.{reach}
 use Rattle.fl_store.proofs.Making.{blank-behind, none-of}
+use Rattle.fl_ends.specs.declared.shell.ShellStatus.TheVariants.{NoMemory}
 use Rattle.fl_session.specs.Ends.{told_of}
 use Rattle.fl_session.proofs.Over.{media-goes_on, opens-as, opens-goes}
 use Rattle.fl_session.proofs.Rested.{new-header}
 use Rattle.fl_shell.specs.Input.{InputEnds}
 use Rattle.fl_shell.specs.Statuses.{IsOfSession, opening_status}
-use Rattle.fl_shell.specs.declared.end.ShellStatus.TheVariants.{NoMemory}
 use Rattle.fl_shell.proofs.CompleteEnds.{early-at, looks-early, memory-make, memory-read, memory-write, opening-early, opening-made, session-early}
 use Rattle.fl_shell.proofs.EarlyEnds.{begins-on, ends-of, no-room, not-opened, open-rose}
 use Rattle.fl_shell.proofs.InputEnds.{input-opening}

@@ -1,6 +1,6 @@
 // How a run ends.
 ghost use Rattle.std.specs.Prelude.{◌≡◌};
-ghost use Rattle.fl_session.specs.Number.{number_of};
+ghost use Rattle.fl_ends.specs.RunNumber.{number_of};
 
 use crate::PendingRows;
 

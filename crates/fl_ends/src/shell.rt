@@ -1,6 +1,6 @@
 // How a shell ends.
 ghost use Rattle.std.specs.Prelude.{◌≡◌, true};
-ghost use Rattle.fl_shell.specs.Number.{number_of};
+ghost use Rattle.fl_ends.specs.ShellNumber.{number_of};
 
 /// How a shell ends.
 #[derive(Clone, Copy, Debug, PartialEq, Eq)]

@@ -1,0 +1,3 @@
+pub mod Words
+pub mod RunNumber
+pub mod ShellNumber
