@@ -4,11 +4,11 @@
     build.py CRATE [--lanes N] [--say]
 
 It builds what CRATE stands on and nothing else (`rt lib` in each crate's folder), each crate once those below it are built, and those
-first that most waits for. Such a crate is proved by several jobs, and any other by one at a lower priority, so that it fills what the
-first leave free. `rt lib` locks the folders of the crate and of all below it, so that two of them in one checkout would wait for each
-other: each lane has a copy of the sources, in `out/lanes`, and rt takes from the other lanes what they built. The checkout takes each
-library as soon as it is built, so that a build which was interrupted goes on from there. In the end the copies are removed. A second
-build waits for the first.
+first that most waits for. The one that most waits for is proved by two jobs if it is large, and the others by one at a lower priority, so
+that they fill what it leaves free: each job begins by reading all that the crate stands on. `rt lib` locks the folders of the crate and
+of all below it, so that two of them in one checkout would wait for each other: each lane has a copy of the sources, in `out/lanes`, and
+rt takes from the other lanes what they built. The checkout takes each library as soon as it is built, so that a build which was
+interrupted goes on from there. In the end the copies are removed. A second build waits for the first.
 
     CRATE     a crate of crates.txt
     --lanes N crates at once; if left out, one a processor, at most one for each 4 GB of free memory
@@ -30,8 +30,8 @@ from pathlib import Path
 
 ROOT = Path(__file__).resolve().parent.parent
 MEMORY_OF_A_LANE = 4_000_000_000
-# What waits for a crate, as a part of the longest wait, from which on it gets all the jobs that there are.
-NEAR = 0.9
+# The bytes of code from which on a second job takes less time than it needs to begin.
+LARGE = 50_000
 
 
 def crates_below(name):
@@ -50,9 +50,14 @@ def crates_below(name):
     return wanted
 
 
+def bytes_of_code(crate):
+    """Returns how many bytes of code the crate has: a proof's time goes about with them."""
+    return sum(file.stat().st_size for file in (ROOT / "crates" / crate / "src").rglob("*.rt"))
+
+
 def behind(crates):
-    """Returns, by crate, the bytes of code in the longest chain of crates that waits for it, with its own: a proof's time goes about with them."""
-    own = {it: sum(file.stat().st_size for file in (ROOT / "crates" / it / "src").rglob("*.rt")) for it in crates}
+    """Returns, by crate, the bytes of code in the longest chain of crates that waits for it, with its own."""
+    own = {it: bytes_of_code(it) for it in crates}
     found = {}
 
     def longest(crate):
@@ -70,7 +75,7 @@ def lanes_here():
         free = next(int(it.split()[1]) * 1024 for it in Path("/proc/meminfo").read_text().splitlines() if it.startswith("MemAvailable:"))
     except (OSError, StopIteration):
         pass
-    return max(1, min(os.cpu_count() or 1, free // MEMORY_OF_A_LANE))
+    return max(1, min(len(os.sched_getaffinity(0)), free // MEMORY_OF_A_LANE))
 
 
 def copy_of_sources(to):
@@ -81,10 +86,11 @@ def copy_of_sources(to):
         shutil.copytree(folder, to / "crates" / folder.name, ignore=shutil.ignore_patterns("out"))
 
 
-def build(crate, root, jobs):
-    """Builds a crate's library in a checkout, one job alone at a lower priority, and returns whether that went well and what was printed."""
+def build(crate, root, leads=False):
+    """Builds a crate's library in a checkout, at a lower priority unless it leads, and returns whether that went well and what was printed."""
+    jobs = 2 if leads and bytes_of_code(crate) >= LARGE else 1
     with tempfile.TemporaryFile("w+", encoding="utf-8", errors="replace") as told:
-        words = ["nice", "-n", "0" if jobs > 1 else "10", "rt", "lib", "--jobs", str(jobs)]
+        words = ["nice", "-n", "0" if leads else "10", "rt", "lib", "--jobs", str(jobs)]
         ran = subprocess.run(words, cwd=root / "crates" / crate, stdin=subprocess.DEVNULL, stdout=told, stderr=subprocess.STDOUT)
         told.seek(0)
         return ran.returncode == 0, told.read()
@@ -99,22 +105,20 @@ def build_all(crates, room, lanes):
         copy_of_sources(root)
     with ThreadPoolExecutor(lanes) as pool, ThreadPoolExecutor(1) as taking:
         while left or running:
-            near = NEAR * max(order[it] for it in [*left, *(crate for crate, _, _ in running.values())])
+            first = max(order[it] for it in [*left, *(crate for crate, _ in running.values())])
             for crate in [it for it in left if built.issuperset(crates[it])][: len(idle)]:
-                spare = 2 * lanes - sum(jobs for _, _, jobs in running.values())
-                jobs = max(1, min(lanes, spare)) if order[crate] >= near else 1
                 minutes = (time.monotonic() - began) / 60
                 print(f"flashts: {minutes:.0f} min, {len(built)} of {len(crates)} are proved, {crate} begins", file=sys.stderr, flush=True)
                 left.remove(crate)
                 root = idle.pop()
-                running[pool.submit(build, crate, root, jobs)] = crate, root, jobs
+                running[pool.submit(build, crate, root, order[crate] == first)] = crate, root
             for it in wait(running, return_when=FIRST_COMPLETED).done:
-                crate, root, _ = running.pop(it)
+                crate, root = running.pop(it)
                 idle.append(root)
                 is_built, told = it.result()
                 if is_built:
                     built.add(crate)
-                    taking.submit(build, crate, ROOT, 1)
+                    taking.submit(build, crate, ROOT)
                 else:
                     print(told, file=sys.stderr)
                     left = []
