@@ -30,7 +30,7 @@ from pathlib import Path
 
 ROOT = Path(__file__).resolve().parent.parent
 MEMORY_OF_A_LANE = 4_000_000_000
-# The bytes of code from which on a second job takes less time than it needs to begin.
+# The bytes of code from which on a second job saves more time than it takes to begin.
 LARGE = 50_000
 
 
