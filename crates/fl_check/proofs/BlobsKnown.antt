@@ -19,7 +19,8 @@ use Rattle.fl_rules.specs.declared.marks.Marks.{Marks}
 use Rattle.fl_rules.specs.declared.numbering.Numbering.{Numbering}
 use Rattle.fl_rules.specs.declared.rule.Rule.TheVariants.{Blob}
 use Rattle.fl_check.specs.declared.table.TableNumbers.{TableNumbers}
-use Rattle.fl_rules.proofs.LooksChangeNothing.{same_pages, told_still}
+use Rattle.fl_frame.proofs.ReadsInTurn.{looks_pages}
+use Rattle.fl_rules.proofs.LooksChangeNothing.{told_still}
 use Rattle.fl_check.proofs.RingsKnown.{sound_rows, sound_content}
 use Rattle.fl_check.proofs.RulesTold.{told_of}
 use Rattle.fl_check.proofs.Wholes.{of_ring, in_ring, references_fault}
@@ -42,13 +43,13 @@ module _ (rows : Marks) (var : Numbering) (broken : Option ℕ) where
       → IsTrue f.media.tells → MisledTold (layout_in config) (page_at f) (rows_shape config) (shape_in config place)
   misled_told config f mid place layout d r listed looks layout_is d_is r_is reaches none some told =
       let late = told_still f mid looks told in
-      let reached = subst (λ (page : ℕ → List ℕ). AreReaches page r var.marks.at var.marks.kept listed) (sym (same_pages f mid looks)) (reaches told) in
+      let reached = subst (λ (page : ℕ → List ℕ). AreReaches page r var.marks.at var.marks.kept listed) (sym (looks_pages f mid looks)) (reaches told) in
       let here : MisledTold layout (page_at mid) d r = λ have content. told_of broken _ (λ p. ReferencesBreak layout (page_at mid) d rows r var p)
       (none late have (record { reaches = reached; content = content })) (some late have (record { reaches = reached; content = content })) in
       subst (λ (x : Shape). MisledTold (layout_in config) (page_at f) (rows_shape config) x) r_is
       (subst (λ (x : Shape). MisledTold (layout_in config) (page_at f) x r) d_is
       (subst (λ (x : RowLayout). MisledTold x (page_at f) d r) layout_is
-      (subst (λ (page : ℕ → List ℕ). MisledTold layout page d r) (same_pages f mid looks) here)))
+      (subst (λ (page : ℕ → List ℕ). MisledTold layout page d r) (looks_pages f mid looks) here)))
 
 -- ---- where the rings are sound
 

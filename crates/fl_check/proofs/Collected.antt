@@ -7,6 +7,7 @@ use Rattle.std.proofs.lemmas.List.Sums.{sum_by-cons}
 use Rattle.std.proofs.lemmas.Option.{none-some, same_Some}
 use Rattle.fl_model.specs.Table.{full_pages}
 use Rattle.fl_model.proofs.FullPages.{full-cons, full-one}
+use Rattle.fl_model.proofs.Lists.{each-append}
 use Rattle.fl_ring.specs.Counts.{page_count}
 
 -- the pieces of a list that the elements of another one make
@@ -26,13 +27,9 @@ pub all-map : {A B : Type 0} (f : A → B) (P : B → Type 0) (xs : List A) (d :
 all-map f P [] d all = tt
 all-map f P (x ∷ xs) d all = (all 0 (omega arith), all-map f P xs d (λ i lt. all (suc i) (omega (arith, lt))))
 
-all-append : {B : Type 0} (P : B → Type 0) (xs ys : List B) → AllByRecursion P xs → AllByRecursion P ys → AllByRecursion P (xs ++ ys)
-all-append P [] ys front back = back
-all-append P (x ∷ xs) ys front back = (front.0, all-append P xs ys front.1 back)
-
 pub all-flat : {A B : Type 0} (f : A → List B) (P : B → Type 0) (xs : List A) (d : A) → ((i : ℕ) → i < length xs → AllByRecursion P (f (get_or xs i d))) → AllByRecursion P (flat_map f xs)
 all-flat f P [] d all = tt
-all-flat f P (x ∷ xs) d all = all-append P (f x) (flat_map f xs) (all 0 (omega arith)) (all-flat f P xs d (λ i lt. all (suc i) (omega (arith, lt))))
+all-flat f P (x ∷ xs) d all = each-append P (f x) (flat_map f xs) (all 0 (omega arith)) (all-flat f P xs d (λ i lt. all (suc i) (omega (arith, lt))))
 
 pub sum-flat : {A B : Type 0} (f : A → List B) (counts : A → ℕ) → ((a : A) → counts a ≡ length (f a)) → (xs : List A) → sum (map counts xs) ≡ length (flat_map f xs)
 sum-flat f counts same [] = refl

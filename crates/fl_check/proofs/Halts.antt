@@ -1,5 +1,5 @@
 -- What holds of the results of a table's check.
-use Rattle.std.proofs.Common.{◌≡◌, Option, Some, None, IfSome, IfNone, Result, Ok, Err, IfOk, IfErr, OnOk, subst}
+use Rattle.std.proofs.Common.{◌≡◌, Option, None, IfNone, Result, Ok, Err, IfOk, IfErr, subst}
 use Rattle.fl_flash.specs.declared.flash.FlashFault.{FlashFault}
 use Rattle.fl_rules.specs.Stop.{IfFlash, IfBroken}
 use Rattle.fl_rules.specs.declared.rule.Breach.{Breach}
@@ -37,13 +37,6 @@ module _ {A : Type 0} (checked : Result A Stop) where
   pub found_of : (P : Breach → Type 0) (b : Breach) → checked ≡ Err (Broken b) → IfErr checked (IfBroken P) → P b
   found_of P b e p = subst (λ (x : Result A Stop). IfErr x (IfBroken P)) e p
 
-pub on_ok : {A : Type 0} (P Q : Type 0) (result : Result A Halt) → (P → Q) → OnOk result P → OnOk result Q
-on_ok P Q (Ok a) f p = f p
-on_ok P Q (Err halt) f p = tt
-
 -- what is known of an answer
 pub none_of : {A : Type 0} (P : Type 0) (o : Option A) → o ≡ None → IfNone o P → P
 none_of {A = A} P o e p = subst (λ (x : Option A). IfNone x P) e p
-
-pub some_of : {A : Type 0} (P : A → Type 0) (o : Option A) (a : A) → o ≡ Some a → IfSome o P → P a
-some_of {A = A} P o a e p = subst (λ (x : Option A). IfSome x P) e p

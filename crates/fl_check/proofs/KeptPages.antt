@@ -1,22 +1,22 @@
 -- The pages that a table keeps.
-use Rattle.std.proofs.Common.{◌≡◌, ℕ, zero, suc, ◌+◌, ◌-◌, ◌<◌, ◌≤◌, ◌⊎◌, inl, inr, Bool, true, ◌&&◌, ◌||◌, ◌==◌, cond, nat_lt, Option, Some, None, IfSome, option_map, unwrap_or, slice_get, List, [], ◌∷◌, length, map, take, drop, refl, sym, subst, ap, ◌∙◌, arith, length-drop}
+use Rattle.std.proofs.Common.{◌≡◌, ℕ, ◌+◌, ◌-◌, ◌^◌, ◌<◌, ◌≤◌, ◌⊎◌, inl, inr, Bool, true, ◌&&◌, ◌||◌, ◌==◌, cond, nat_lt, Option, Some, None, IfSome, option_map, unwrap_or, slice_get, List, [], ◌∷◌, length, map, take, drop, refl, sym, subst, ap, ◌∙◌, arith, length-drop}
 use Rattle.std.specs.List.{last_or, sum, AllByRecursion}
 use Rattle.std.proofs.lemmas.Bool.{eq-eqb, lt-ltb, cases_lt}
 use Rattle.std.proofs.lemmas.List.{length-take-le}
 use Rattle.std.proofs.lemmas.Option.{slice_get-map, none-some, same_Some}
-use Rattle.std.proofs.lemmas.List.Sums.{sum_by-cons}
 use Rattle.fl_model.specs.Agrees.{reach_of}
 use Rattle.fl_model.specs.Facts.{IsTable, IsContent, FitsPlan, BlobFits, is_some_ring}
 use Rattle.fl_model.specs.Image.{HoldsRows, HoldsEntries as HoldsListing, HoldsContent, rows_at}
 use Rattle.fl_model.specs.Index.{IndexPage}
 use Rattle.fl_model.specs.Mount.{index_end}
-use Rattle.fl_model.specs.Query.{is_above}
-use Rattle.fl_model.specs.Record.{Plan, row_layout, has_var, entries_per_page}
+use Rattle.fl_model.specs.Record.{Plan, has_var, entries_per_page}
 use Rattle.fl_model.specs.Ring.{Ring, IsRing, oldest}
-use Rattle.fl_model.specs.Row.{Row, IsStorable, stored_row}
+use Rattle.fl_model.specs.Row.{stored_row}
 use Rattle.fl_model.specs.Table.{Table, Entry, DataRing, VarRing, shape_of, written, firsts, full_pages}
-use Rattle.fl_model.proofs.Lists.{slice_get-some, slice_get-short, slice_get-take, slice_get-drop, slice_get-front, each-drop, each-take, each-at, last_or-get}
-use Rattle.fl_page.specs.Steps.{Ascends}
+use Rattle.fl_model.proofs.Lists.{slice_get-some, slice_get-short, slice_get-take, slice_get-drop, slice_get-front, each-drop, each-take, each-at, last_or-get, sum-within}
+use Rattle.fl_model.proofs.BlobEnds.{AreNumbered}
+use Rattle.fl_model.proofs.StoredRows.{row_of_blob, all-stored}
+use Rattle.fl_page.proofs.DataPages.{entries-ascend}
 use Rattle.fl_rules.specs.ContentPage.{IsContentPage}
 use Rattle.fl_rules.specs.DataPage.{HoldsEntries, is_plain, are_plain}
 use Rattle.fl_rules.specs.IndexPage.{IsIndexPage}
@@ -25,29 +25,7 @@ use Rattle.fl_rules.proofs.ContentPages.{content_of_page}
 
 -- ---- one entry
 
-abbrev row_of_blob : Entry → Option (List ℕ) → Row
-row_of_blob entry o = record { key = entry.kept.key; values = entry.kept.values; blob = option_map (λ bytes. record { page = entry.page; offset = entry.offset; length = length bytes }) o }
-
 module _ (plan : Plan) (entry : Entry) (fits : FitsPlan plan entry) where
-  row-storable : ((blob : List ℕ) → entry.kept.blob ≡ Some blob → 0 < length blob → entry.page < 4294967295) → IsStorable (row_layout plan) (stored_row entry)
-  row-storable numbered = by_blob entry.kept.blob refl fits.blob
-    where
-      by_length : (xs : List ℕ) → entry.kept.blob ≡ Some xs → (length xs ≡ 0 → (entry.page ≡ 0) × (entry.offset ≡ 0)) → entry.page < 4294967295
-      by_length [] e none = omega (arith, (none refl).0)
-      by_length (x ∷ xs) e none = numbered (x ∷ xs) e (omega arith)
-
-      by_blob : (o : Option (List ℕ)) → entry.kept.blob ≡ o → BlobFits plan entry o → IsStorable (row_layout plan) (stored_row entry)
-      by_blob None e b =
-          subst (λ (o : Option (List ℕ)). IsStorable (row_layout plan) (row_of_blob entry o)) (sym e)
-          (record { fits = record { key = fits.key; as_many = fits.as_many; values = fits.values; blob = tt }; bytes = tt })
-      by_blob (Some bytes) e b =
-          let page : entry.page < 4294967295 = by_length bytes e b.3 in
-          subst (λ (o : Option (List ℕ)). IsStorable (row_layout plan) (row_of_blob entry o)) (sym e)
-          (record {
-            fits = record { key = fits.key; as_many = fits.as_many; values = fits.values; blob = (b.0, λ at offset len. omega (arith, at, page)) };
-            bytes = (omega (arith, page), b.2, b.1);
-          })
-
   row-plain : is_plain (stored_row entry).blob ≡ true
   row-plain = by_blob entry.kept.blob refl fits.blob
     where
@@ -60,15 +38,6 @@ module _ (plan : Plan) (entry : Entry) (fits : FitsPlan plan entry) where
       by_blob (Some bytes) e b = ap (λ (o : Option (List ℕ)). is_plain (row_of_blob entry o).blob) e ∙ by_length bytes b.3
 
 -- ---- entries
-
--- the blobs of these entries begin on pages whose numbers fit
-abbrev AreNumbered : List Entry → Type 0
-AreNumbered entries = (i : ℕ) (entry : Entry) (blob : List ℕ) → slice_get entries i ≡ Some entry → entry.kept.blob ≡ Some blob → 0 < length blob → entry.page < 4294967295
-
-pub rows-storable : (plan : Plan) (entries : List Entry) → AreNumbered entries → AllByRecursion (FitsPlan plan) entries → AllByRecursion (IsStorable (row_layout plan)) (map stored_row entries)
-rows-storable plan [] numbered fit = tt
-rows-storable plan (entry ∷ entries) numbered fit =
-    (row-storable plan entry fit.0 (λ blob is some. numbered 0 entry blob refl is some), rows-storable plan entries (λ i. numbered (suc i)) fit.1)
 
 pub rows-plain : (plan : Plan) (entries : List Entry) → AllByRecursion (FitsPlan plan) entries → are_plain (map stored_row entries) ≡ true
 rows-plain plan [] fit = refl
@@ -85,18 +54,10 @@ module _ (plan : Plan) (table : Table) (facts : IsTable plan table) where
       fit = subst (BlobFits plan entry) is (each-at (FitsPlan plan) table.entries i entry facts.fit (slice_get-front (length table.entries - table.pending) table.entries i entry e)).blob
 
       by_ring : (o : Option Ring) → is_some_ring o ≡ has_var plan → IfSome o (IsRing (shape_of plan VarRing)) → IfSome o (λ ring. ring.next + (cond ring.torn 1 0) ≤ 4294967292)
-          → IfSome o (λ ring. (entry.page < oldest ring) ⊎ ((oldest ring ≤ entry.page) × (slice_get ring.counts (entry.page - oldest ring) ≡ Some 1) × (entry.page + reach_of plan entry blob < ring.next))) → entry.page < 4294967295
+          → IfSome o (λ ring. (entry.page < oldest ring) ⊎ ((oldest ring ≤ entry.page) × (slice_get ring.counts (entry.page - oldest ring) ≡ Some 1) × (entry.page + reach_of plan entry blob < ring.next))) → entry.page + 1 < 2 ^ 32
       by_ring None has ring small at = absurd (cc (has ∙ fit.0))
       by_ring (Some ring) has is_ring small (inl before) = omega (arith, before, small)
       by_ring (Some ring) has is_ring small (inr within) = omega (arith, within.2, small)
-
--- the pages before a page, and it, have no more records than all
-sum-within : (counts : List ℕ) (i count : ℕ) → slice_get counts i ≡ Some count → sum (take i counts) + count ≤ sum counts
-sum-within [] i count e = absurd (none-some count e)
-sum-within (x ∷ xs) zero count e = let same : x ≡ count = cc in let all = sum_by-cons (λ (n : ℕ). n) x xs in omega (arith, same, all)
-sum-within (x ∷ xs) (suc i) count e =
-    let rest = sum-within xs i count e in
-    omega (arith, rest, sum_by-cons (λ (n : ℕ). n) x xs, sum_by-cons (λ (n : ℕ). n) x (take i xs))
 
 module _ (plan : Plan) (table : Table) (facts : IsTable plan table) (i count : ℕ) (at : slice_get table.rows.counts i ≡ Some count) where
   abbrev start : ℕ
@@ -124,21 +85,10 @@ module _ (plan : Plan) (table : Table) (facts : IsTable plan table) (i count : �
     entries = rows_at table i count;
     some = omega (arith, some, row-count);
     few = rw row-count (each-at _ table.rows.counts i count facts.few_rows at);
-    storable = rows-storable plan (rows_at table i count) rows-numbered rows-fit;
+    storable = all-stored plan (rows_at table i count) rows-numbered rows-fit;
     plain = rows-plain plan (rows_at table i count) rows-fit;
     bytes = is;
   }
-
--- ---- keys
-
-pub entries-ascend : (above : Option ℕ) (entries : List Entry) → ((entry : Entry) → slice_get entries 0 ≡ Some entry → is_above above entry.kept.key ≡ true)
-    → ((i j : ℕ) (a b : Entry) → i < j → slice_get entries i ≡ Some a → slice_get entries j ≡ Some b → a.kept.key < b.kept.key) → Ascends above (map stored_row entries)
-entries-ascend above [] first ascending = tt
-entries-ascend above (entry ∷ entries) first ascending = (
-  first entry refl,
-  entries-ascend (Some entry.kept.key) entries (λ next is. lt-ltb entry.kept.key next.kept.key (ascending 0 1 entry next (omega arith) refl is))
-      (λ i j a b less. ascending (suc i) (suc j) a b (omega (arith, less))),
-)
 
 -- ---- index pages
 

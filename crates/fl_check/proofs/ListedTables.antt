@@ -3,12 +3,13 @@ use Rattle.std.proofs.Common.{◌≡◌, ◌⊎◌, inl, inr, ℕ, zero, suc, �
 use Rattle.std.specs.List.{slice_get, sum, last_or, AllByRecursion}
 use Rattle.std.specs.Option.{option_map, unwrap_or}
 use Rattle.std.proofs.Math.Nat.{mod-eq_of_lt}
-use Rattle.std.proofs.lemmas.Bool.{cases_lt, cases_eq, cond-true, cond-false, lt-ltb, ltb-true, true≢false}
+use Rattle.std.proofs.lemmas.Bool.{cases_lt, cases_eq, cond-true, cond-false, lt-ltb, ltb-true, true≢false, false_from_ne_true}
 use Rattle.std.proofs.lemmas.Option.{same_Some}
+use Rattle.fl_base.proofs.Tests.{zero_either}
 use Rattle.fl_mark.specs.Mark.{state_of_page}
 use Rattle.fl_index.specs.Page.{page_first, bitmap_at, full_at, found_at, full_view}
 use Rattle.fl_index.specs.declared.page.Full as code
-use Rattle.fl_index.proofs.Lists.{first-at, firsts-length}
+use Rattle.fl_index.proofs.Lists.{firsts-length}
 use Rattle.fl_index.proofs.LookupsOfTable.{IsAt, IsIndexPage, index-page}
 use Rattle.fl_index.proofs.WaitingEntries.{plan_form}
 use Rattle.fl_model.specs.Agrees.{Tells, TellsAt, TellPages, is_told}
@@ -21,6 +22,7 @@ use Rattle.fl_model.specs.Row.{stored_row}
 use Rattle.fl_model.specs.Table.{Table, Entry, firsts, full_pages}
 use Rattle.fl_model.proofs.FullPages.{full-page, full-below, full-within}
 use Rattle.fl_model.proofs.Lists.{slice_get-some, slice_get-short, last_or-get, each-at, take_none}
+use Rattle.fl_model.proofs.FullIndex.{first-at}
 use Rattle.fl_page.specs.Header.{page_number, page_bitmap}
 use Rattle.fl_page.specs.Page.{rows_in, IsGoodPage}
 use Rattle.fl_ring.specs.Newest.{commits}
@@ -46,10 +48,6 @@ end-within room next (first ∷ firsts) last =
 
 -- the end of what the newest committed page lists
 module _ (per_page : ℕ) (page : ℕ → List ℕ) (x : Shape) (m : Marks) (i : ℕ) (lists : Lists page x m i) where
-  not-listed : (b : Bool) → (b ≡ true → ⊥) → b ≡ false
-  not-listed true none = absurd (none refl)
-  not-listed false none = refl
-
   pub listed-to-last : (k : ℕ) → i < k → ((j : ℕ) → i < j → j < k → Lists page x m j → ⊥) → listed_to per_page page x m k ≡ first_listed page x m i + per_page
   listed-to-last zero lt alone = absurd (omega (arith, lt))
   listed-to-last (suc k) lt alone = elim (cases_eq i k) [
@@ -58,7 +56,7 @@ module _ (per_page : ℕ) (page : ℕ → List ℕ) (x : Shape) (m : Marks) (i :
         ∙ cond-true (commits (state_of_page (page (kept_page x m i)))) (page_first (page (kept_page x m i)) + per_page) (listed_to per_page page x m k) lists
     | inr apart ↦
         cond-false (commits (state_of_page (page (kept_page x m k)))) (page_first (page (kept_page x m k)) + per_page) (listed_to per_page page x m k)
-        (not-listed (commits (state_of_page (page (kept_page x m k)))) (alone k (omega (arith, lt, apart)) (omega arith)))
+        (false_from_ne_true (commits (state_of_page (page (kept_page x m k)))) (alone k (omega (arith, lt, apart)) (omega arith)))
         ∙ listed-to-last k (omega (arith, lt, apart)) (λ j more less. alone j more (omega (arith, less)))
   ]
 
@@ -207,10 +205,6 @@ module _ (plan : Plan) (page : ℕ → List ℕ) (x d : Shape) (least : ℕ) (la
   or-left true b either not = refl
   or-left false b either not = absurd (true≢false (sym either ∙ not))
 
-  no-bits : (b : Bool) → ◌≡◌ {A = ℕ} (cond b 0 0) 0
-  no-bits true = refl
-  no-bits false = refl
-
   -- an entry that was read, and tells of the i-th kept data page
   module _ (i c : ℕ) (here : slice_get table.rows.counts i ≡ Some c) (bytes : List ℕ) (j : ℕ) (entry : IndexEntry) (is_at : IsAt (plan_form plan) bytes j entry) (fits : IsTrimmed plan entry)
       (tells : TellsPage layout (page (kept_page d rows.marks i)) (found_at (plan_form plan) bytes j)) where
@@ -240,7 +234,7 @@ module _ (plan : Plan) (page : ℕ → List ℕ) (x d : Shape) (least : ℕ) (la
         let full : plan.full_index ≡ true = or-left plan.full_index (nat_lt 0 c) is (ap (nat_lt 0) zero_is) in
         let void = full-told (λ (f : code.Full). (bitmap_at (plan_form plan) bytes j ≡ 0) × (full_view f ≡ full_of [])) full (tells.void (of_rows.reads.committed i c here ∙ ap (nat_lt 0) zero_is)) in
         let rows_are : rows_at table i c ≡ [] = ap (λ (n : ℕ). take n (drop (sum (take i table.rows.counts)) table.entries)) zero_is ∙ take_none (drop (sum (take i table.rows.counts)) table.entries) in
-        subst (λ (es : List Entry). Tells plan es entry) (sym rows_are) (record { bitmap = sym bitmap-is ∙ void.0 ∙ sym (no-bits (plan.bits == 0)); full = λ f. sym (full-is f) ∙ void.1 })
+        subst (λ (es : List Entry). Tells plan es entry) (sym rows_are) (record { bitmap = sym bitmap-is ∙ void.0 ∙ sym (zero_either (plan.bits == 0)); full = λ f. sym (full-is f) ∙ void.1 })
 
     tells-of : IsTrue (is_told plan c) → Tells plan (rows_at table i c) entry
     tells-of is = elim (cases_lt 0 c) [

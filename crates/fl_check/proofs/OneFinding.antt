@@ -53,17 +53,11 @@ pub record BreaksAt (Breaks : RingPlace → halt.Fault → Type 0) (o : Option R
   pub is : o ≡ Some place
   pub breaks : Breaks place fault
 
-none_some : {A : Type 0} (a : A) → None ≡ Some a → ⊥
-none_some a e = cc
-
-place_same : (o : Option RingPlace) (a b : RingPlace) → o ≡ Some a → o ≡ Some b → a ≡ b
-place_same o a b x y = same_Some a b (sym x ∙ y)
-
 of_decided : (Holds : RingPlace → Numbering → Type 0) (Breaks : RingPlace → halt.Fault → Type 0) → ((place : RingPlace) → Decided (Holds place) (Breaks place)) → (o : Option RingPlace)
     → Decided (λ (x : Option Numbering). OfRing Holds o x) (BreaksAt Breaks o)
 of_decided Holds Breaks d o = record {
   one = one o;
-  first = λ b c h k. (d k.place).first b c (subst (λ (place : RingPlace). Breaks place b) (place_same o h.place k.place h.is k.is) h.breaks) k.breaks;
+  first = λ b c h k. (d k.place).first b c (subst (λ (place : RingPlace). Breaks place b) (same_Some h.place k.place (sym h.is ∙ k.is)) h.breaks) k.breaks;
   either = λ x b h k. either x b (subst (λ (p : Option RingPlace). OfRing Holds p x) k.is h) k.breaks;
 }
   where
@@ -188,7 +182,7 @@ module _ (config : TableConfig) (log : Option RingPlace) (page : ℕ → List �
       first : (b c : halt.Fault) → EntriesBreakIn t b → EntriesBreakIn t c → b ≡ c
       first b c h k =
           let moved = subst (λ (n : Numbering). EntriesBreak page (shape_in config k.place) (rows_shape config) (indexing config n t.rows) b.page) (same_Some h.n k.n (sym h.numbered ∙ k.numbered))
-          (subst (λ (place : RingPlace). EntriesBreak page (shape_in config place) (rows_shape config) (indexing config h.n t.rows) b.page) (place_same config.index h.place k.place h.is k.is) h.breaks) in
+          (subst (λ (place : RingPlace). EntriesBreak page (shape_in config place) (rows_shape config) (indexing config h.n t.rows) b.page) (same_Some h.place k.place (sym h.is ∙ k.is)) h.breaks) in
           fault_same b c (h.ring ∙ sym k.ring) (entries_once (shape_in config k.place) (rows_shape config) (indexing config k.n t.rows) b.page c.page moved k.breaks) (h.rule ∙ sym k.rule)
 
       either : (u : Unit {0}) (b : halt.Fault) → AreEntriesSound config page t → EntriesBreakIn t b → ⊥
@@ -222,7 +216,7 @@ module _ (config : TableConfig) (log : Option RingPlace) (page : ℕ → List �
       first : (b c : halt.Fault) → ReferencesBreakIn t b → ReferencesBreakIn t c → b ≡ c
       first b c h k =
           let moved = subst (λ (n : Numbering). ReferencesBreak (layout_in config) page (rows_shape config) t.rows.marks (shape_in config k.place) n b.page) (same_Some h.n k.n (sym h.numbered ∙ k.numbered))
-          (subst (λ (place : RingPlace). ReferencesBreak (layout_in config) page (rows_shape config) t.rows.marks (shape_in config place) h.n b.page) (place_same config.var h.place k.place h.is k.is) h.breaks) in
+          (subst (λ (place : RingPlace). ReferencesBreak (layout_in config) page (rows_shape config) t.rows.marks (shape_in config place) h.n b.page) (same_Some h.place k.place (sym h.is ∙ k.is)) h.breaks) in
           fault_same b c (h.ring ∙ sym k.ring) (references_once t (shape_in config k.place) k.n b.page c.page moved k.breaks) (h.rule ∙ sym k.rule)
 
       either : (u : Unit {0}) (b : halt.Fault) → AreReferencesSound config page t → ReferencesBreakIn t b → ⊥

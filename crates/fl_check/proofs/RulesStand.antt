@@ -2,7 +2,7 @@
 use Rattle.std.proofs.Common.{◌≡◌, ◌⊎◌, ℕ, zero, suc, ◌+◌, ◌-◌, ◌*◌, ◌/◌, ◌%◌, ◌≤◌, ◌<◌, ◌==◌, ◌++◌, Bool, true, false, not, cond, min, List, map, length, take, drop, get_or, is_some, Option, Some, None, IfSome, IsTrue, inl, inr, refl, sym, ◌∙◌, ap, subst, arith}
 use Rattle.std.specs.Prelude.{MatchBool}
 use Rattle.std.specs.List.{list_any, range_with_len}
-use Rattle.std.proofs.Math.Nat.{mul-le-mul_right, add-mul, mul_assoc, mod-lt, mod-eq_of_lt, mod-add-mod, add-mod_right, mul-add-mod_self_right, mul-mod_left}
+use Rattle.std.proofs.Math.Nat.{mul-le-mul_right, add-mul, mul_assoc, mod-lt, mod-eq_of_lt, mod-add-mod, mul-add-mod_self_right, mul-mod_left}
 use Rattle.std.proofs.lemmas.Nat.{mod-mul-add}
 use Rattle.std.proofs.lemmas.Bool.{true≢false, cases_lt, cases_Bool, eq-eqb, eqb-true, cond-true, cond-false}
 use Rattle.std.proofs.lemmas.List.{take-append-drop, length-take-le}
@@ -23,6 +23,8 @@ use Rattle.fl_ring.specs.Ring.{Shape, RingState, IsShape, IsRing, OnRing, HoldsK
 use Rattle.fl_ring.proofs.BlockAheadIsClean.{blank_of, blank_is_blank}
 use Rattle.fl_ring.proofs.GoodNumbers.{number_some, renumbered_some, renumbered_none}
 use Rattle.fl_ring.proofs.Modulo.{parts, rest_back, more, last_block}
+use Rattle.fl_ring.proofs.SamePlaces.{least_is_alike}
+use Rattle.fl_ring.proofs.TornPages.{back_mod, torn_of}
 use Rattle.fl_rules.specs.Bodies.{HaveBodies}
 use Rattle.fl_rules.specs.Endings.{IsEnded}
 use Rattle.fl_rules.specs.Marks.{kept_page}
@@ -43,12 +45,6 @@ void_of Torn seal other = cc
 void_of Committed seal other = cc
 void_of Void seal other = refl
 
-torn_of : (st : PageState) → seals st ≡ false → blanks st ≡ false → st ≡ Torn
-torn_of Blank unsealed some = cc
-torn_of Torn unsealed some = refl
-torn_of Committed unsealed some = cc
-torn_of Void unsealed some = cc
-
 -- the body of a committed page
 body_of : ℕ → List ℕ → List ℕ
 body_of size page = take (size - 8) page
@@ -60,22 +56,6 @@ holds_body size page large same ended =
       sym (take-append-drop (size - 8) page) ∙ ap (λ (l : List ℕ). take (size - 8) page ++ l) end,
       omega (arith, length-take-le (size - 8) page (omega (arith, same)), large),
     )
-
--- ---- numbers
-
-least_mod : (M n least : ℕ) → 0 < M → least_alike M n least % M ≡ n % M
-least_mod M n least some =
-    let low : least % M < M = mod-lt least some in
-    let split = parts M least in
-    let e : (n % M + M - least % M) % M + least ≡ least + (n % M + M - least % M) % M = omega arith in
-    let sum : n % M + M - least % M + least ≡ least / M * M + (n % M + M) = omega (arith, split, low) in
-    ap (λ (k : ℕ). k % M) (sym e) ∙ mod-add-mod (n % M + M - least % M) M least ∙ ap (λ (k : ℕ). k % M) sum ∙ mul-add-mod_self_right (least / M) M (n % M + M)
-    ∙ add-mod_right (n % M) M ∙ mod-eq_of_lt (mod-lt n some)
-
-back_mod : (M number at back : ℕ) → at < M → back ≤ M → number % M ≡ (at + M - back) % M → (number + back) % M ≡ at
-back_mod M number at back lt few fits =
-    let sum : at + M - back + back ≡ at + M = omega (arith, few) in
-    sym (mod-add-mod number M back) ∙ ap (λ (k : ℕ). (k + back) % M) fits ∙ mod-add-mod (at + M - back) M back ∙ ap (λ (k : ℕ). k % M) sum ∙ add-mod_right at M ∙ mod-eq_of_lt lt
 
 -- of the pages behind a place all are blank, or one isn't
 record IsWrittenAfter (page : ℕ → List ℕ) (r : Shape) (at n : ℕ) : Type 0 where
@@ -187,7 +167,7 @@ module _ (page : ℕ → List ℕ) (r : Shape) (at_least : ℕ) (n : Numbering) 
   next_at = by_newest is.numbers.newest is.numbers.newest_is is.numbers.fits is.numbers.next_is
     where
       by_newest : (newest : Option Newest) → NewestOf page r m newest → FitsPlace r m newest → n.next ≡ next_of r m at_least newest → n.next % room r ≡ m.at
-      by_newest None none fits e = ap (λ (k : ℕ). k % room r) e ∙ least_mod (room r) m.at (at_least + m.kept) (omega (arith, at_low)) ∙ mod-eq_of_lt at_low
+      by_newest None none fits e = ap (λ (k : ℕ). k % room r) e ∙ least_is_alike (room r) m.at (at_least + m.kept) (omega (arith, at_low)) ∙ mod-eq_of_lt at_low
       by_newest (Some x) found fits e = ap (λ (k : ℕ). k % room r) e ∙ back_mod (room r) x.number m.at x.back at_low (omega (arith, found.within, kept_low)) fits
 
   turns : ℕ

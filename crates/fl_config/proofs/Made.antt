@@ -12,18 +12,11 @@ use Rattle.fl_model.specs.Record.{Column}
 use Rattle.fl_words.specs.Command.{TableLine}
 use Rattle.fl_words.specs.Config.{cons_column, column_named, columns_named, columns_in, plan_of}
 use Rattle.fl_plan.specs.declared.table_config.TableConfig.{TableConfig}
-use Rattle.fl_plan.specs.Plan.{IsRingAt, blocks_in, bits_in, base_in, width_in}
+use Rattle.fl_plan.specs.Plan.{IsRingAt, bits_in, base_in, width_in}
 use Rattle.fl_plan.specs.Limits.{IsRingSize}
+use Rattle.fl_plan.proofs.RingPlaces.{ring-blocks}
 use Rattle.fl_config.specs.Label.{plan_with}
 use Rattle.fl_config.specs.Words.{IsRingOrNone, AreBucketsIn, label_in}
-
-pub ring-blocks : (place : Option RingPlace) (first blocks : ℕ) → IsRingAt place first blocks → blocks_in place ≡ blocks
-ring-blocks None first blocks at = sym at
-ring-blocks (Some place) first blocks at = at.1
-
-pub ring-first : (place : Option RingPlace) (first blocks : ℕ) → IsRingAt place first blocks → IfSome place (λ p. p.first_block ≡ first)
-ring-first None first blocks at = tt
-ring-first (Some place) first blocks at = at.0
 
 pub ring-size : (place : Option RingPlace) (first blocks : ℕ) → IsRingAt place first blocks → IsRingOrNone blocks → IfSome place IsRingSize
 ring-size None first blocks at few = tt

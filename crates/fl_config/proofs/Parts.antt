@@ -23,13 +23,6 @@ pub record Seen (parts : List (List ℕ)) (k : ℕ) (items : List ColumnType) (f
   pub kept : items ≡ take 8 seen
   pub fits_is : fits ≡ nat_le (length seen) 8
 
-onto-none : (columns : Option (List Column)) → columns ≡ onto [] columns
-onto-none None = refl
-onto-none (Some columns) = refl
-
-pub seen-init : (parts : List (List ℕ)) → Seen parts 0 [] true
-seen-init parts = record { seen = []; so_far = onto-none (columns_named parts); kept = refl; fits_is = refl }
-
 onto-more : (done : List Column) (column : Column) (columns : Option (List Column)) → onto done (cons_column (Some column) columns) ≡ onto (done ++ column ∷ []) columns
 onto-more done column None = refl
 onto-more done column (Some columns) = ap (λ l. Some l) (sym (append_assoc done (column ∷ []) columns))
@@ -51,31 +44,19 @@ pub record Pushes (old new : List ColumnType) (of : ColumnType) (fits : Bool) : 
 take-short : (seen : List ColumnType) → length seen ≤ 8 → take 8 seen ≡ seen
 take-short seen le = take_all 8 seen le
 
-push-kept : (seen items new : List ColumnType) (fits : Bool) (of : ColumnType) → items ≡ take 8 seen → Pushes items new of fits → new ≡ take 8 (seen ++ of ∷ [])
-push-kept seen items new fits of kept pushes =
+pushed : (seen items new : List ColumnType) (fits : Bool) (of : ColumnType) → items ≡ take 8 seen → Pushes items new of fits → (new ≡ take 8 (seen ++ of ∷ [])) × (fits ≡ nat_le (length (seen ++ of ∷ [])) 8)
+pushed seen items new fits of kept pushes =
     elim (cases_lt (length seen) 8) [
       | inl few ↦
           let all : items ≡ seen = kept ∙ take-short seen (omega (arith, few)) in
-          let some : length items < 8 = subst (λ (l : List ColumnType). length l < 8) (sym all) few in
+          let some = pushes.some (subst (λ (l : List ColumnType). length l < 8) (sym all) few) in
           let short : length (seen ++ of ∷ []) ≤ 8 = omega (arith, few, length-append seen (of ∷ [])) in
-          (pushes.some some).0 ∙ ap (λ (l : List ColumnType). l ++ of ∷ []) all ∙ sym (take-short (seen ++ of ∷ []) short)
+          let is : nat_le (length (seen ++ of ∷ [])) 8 ≡ true = grind (arith, nat_tests, short) in
+          (some.0 ∙ ap (λ (l : List ColumnType). l ++ of ∷ []) all ∙ sym (take-short (seen ++ of ∷ []) short), some.1 ∙ sym is)
       | inr many ↦
-          let full : 8 ≤ length items = omega (arith, ap (λ (l : List ColumnType). length l) kept, length-take-le 8 seen many) in
-          (pushes.full full).0 ∙ kept ∙ sym (take-append-le 8 seen (of ∷ []) many)
-    ]
-
-push-fits : (seen items new : List ColumnType) (fits : Bool) (of : ColumnType) → items ≡ take 8 seen → Pushes items new of fits → fits ≡ nat_le (length (seen ++ of ∷ [])) 8
-push-fits seen items new fits of kept pushes =
-    elim (cases_lt (length seen) 8) [
-      | inl few ↦
-          let all : items ≡ seen = kept ∙ take-short seen (omega (arith, few)) in
-          let some : length items < 8 = subst (λ (l : List ColumnType). length l < 8) (sym all) few in
-          let is : nat_le (length (seen ++ of ∷ [])) 8 ≡ true = grind (arith, nat_tests, few, length-append seen (of ∷ [])) in
-          (pushes.some some).1 ∙ sym is
-      | inr many ↦
-          let full : 8 ≤ length items = omega (arith, ap (λ (l : List ColumnType). length l) kept, length-take-le 8 seen many) in
+          let full = pushes.full (omega (arith, ap (λ (l : List ColumnType). length l) kept, length-take-le 8 seen many)) in
           let is : nat_le (length (seen ++ of ∷ [])) 8 ≡ false = grind (arith, nat_tests, many, length-append seen (of ∷ [])) in
-          (pushes.full full).1 ∙ sym is
+          (full.0 ∙ kept ∙ sym (take-append-le 8 seen (of ∷ []) many), full.1 ∙ sym is)
     ]
 
 pub seen-next : (parts : List (List ℕ)) (k : ℕ) (items new : List ColumnType) (fits fits' : Bool) (part : List ℕ) (of : ColumnType) →
@@ -87,8 +68,8 @@ seen-next parts k items new fits fits' part of before lt is named pushes = recor
       (named-drop parts k part lt is ∙ ap (λ c. cons_column c (columns_named (drop (k + 1) parts))) named)
       ∙ onto-more (map column_of before.seen) (column_of of) (columns_named (drop (k + 1) parts))
       ∙ ap (λ l. onto l (columns_named (drop (k + 1) parts))) (map-push before.seen of);
-  kept = push-kept before.seen items new fits' of before.kept pushes;
-  fits_is = push-fits before.seen items new fits' of before.kept pushes;
+  kept = (pushed before.seen items new fits' of before.kept pushes).0;
+  fits_is = (pushed before.seen items new fits' of before.kept pushes).1;
 }
 
 -- a part that is no name

@@ -3,7 +3,7 @@ use Rattle.std.proofs.Common.{◌≡◌, ℕ, ◌+◌, ◌-◌, ◌≤◌, Resul
 use Rattle.std.proofs.lemmas.Bool.{false≢true}
 use Rattle.std.proofs.lemmas.List.{replicate-append-replicate, length-replicate}
 use Rattle.std.proofs.Math.Nat.{sub_self}
-use Rattle.fl_base.specs.Causes.{Rose}
+use Rattle.fl_base.proofs.Risen.{rose-back}
 use Rattle.fl_flash.specs.Media.{MediaState}
 use Rattle.fl_config.specs.Opening.{Grown, GrownInPart, Grows}
 
@@ -23,16 +23,13 @@ pub grown-blank : (old mid new : MediaState) (m k n : ℕ) → Grown old (replic
 grown-blank old mid new m k n first then is =
     subst (λ l. Grown old l new) (replicate-append-replicate m k 255 ∙ ap (λ j. replicate j 255) is) (grown-more old mid new (replicate m 255) (replicate k 255) first then)
 
-rose-later : (old mid new : ℕ) → old ≤ mid → Rose mid new → Rose old new
-rose-later old mid new le rose = omega (arith, le, rose)
-
 -- the medium failed behind what was appended, within what was to be
 pub part-more : (old mid new : MediaState) (xs ys all : List ℕ) → Grown old xs mid → GrownInPart mid ys new → length xs + length ys ≤ length all → GrownInPart old all new
 part-more old mid new xs ys all first then within = record {
   tells = then.tells ∙ first.tells;
   reads = then.reads ∙ first.reads;
   later = le_trans first.later then.later;
-  rose = rose-later old.faults mid.faults new.faults first.later then.rose;
+  rose = rose-back old.faults mid.faults new.faults first.later then.rose;
   most = omega (arith, then.most, first.len, within);
 }
 

@@ -1,16 +1,18 @@
 -- When a table line is taken, and what the table then is.
-use Rattle.std.proofs.Common.{◌≡◌, ℕ, ◌+◌, ◌-◌, ◌*◌, ◌%◌, ◌≤◌, Bool, true, false, not, ◌||◌, ◌&&◌, nat_lt, Option, Some, None, List, [], ◌∷◌, ◌++◌, length, map, arith, rules, refl, sym, ◌∙◌, ap, subst, mul-le-mul}
+use Rattle.std.proofs.Common.{◌≡◌, ℕ, ◌+◌, ◌-◌, ◌%◌, ◌≤◌, Bool, false, not, ◌||◌, ◌&&◌, nat_lt, Option, Some, None, List, [], ◌∷◌, ◌++◌, length, map, arith, rules, refl, sym, ◌∙◌, ap, subst}
 use Rattle.std.specs.Prelude.{◌==◌, IfSome, IsSome, IsSomeAnd, is_some, is_none, sum_by, unwrap_or}
 use Rattle.std.specs.List.{list_any}
 use Rattle.std.proofs.lemmas.List.Sums.{sum_by-cons}
 use Rattle.std.proofs.lemmas.Bool.Decides.{nat_tests}
 use Rattle.fl_base.specs.declared.types.Geometry.{Geometry}
 use Rattle.fl_base.specs.declared.types.RingPlace.{RingPlace}
+use Rattle.fl_base.proofs.Tests.{not_zero}
 use Rattle.fl_bitmap.specs.declared.buckets.Buckets.{Buckets}
 use Rattle.fl_model.specs.Record.{Plan, blocks_of, row_len}
 use Rattle.fl_words.specs.Command.{TableLine}
 use Rattle.fl_words.specs.Config as words
 use Rattle.fl_words.specs.Config.{ConfigFault, first_fault, table_faults, plan_of, too_large, bad_blob_limit, bad_log}
+use Rattle.fl_words.proofs.Tests.{first-passes}
 use Rattle.fl_plan.specs.declared.table_config.TableConfig.{TableConfig}
 use Rattle.fl_plan.specs.Plan.{IsRingAt, plan_of_table}
 use Rattle.fl_plan.specs.Limits.{IsWithin, IsRingSize, IsWithinLimits}
@@ -48,10 +50,6 @@ pub last-is : (geometry : Geometry) (blocks : ℕ) (plans : List Plan) (plan : P
     last_faults geometry plans plan log ≡ size_faults geometry blocks plan log
 last-is geometry blocks plans plan log is = rw (large-is geometry blocks plans plan is) refl
 
-pub all-faults : (geometry : Geometry) (plans : List Plan) (line : TableLine) →
-    table_faults geometry plans line ≡ place_faults plans line ++ (line_faults geometry line ++ last_faults geometry plans (plan_of geometry line) line.log_blocks)
-all-faults geometry plans line = refl
-
 page-fits : (geometry : Geometry) → IsWithin geometry → (nat_lt geometry.page 64 || nat_lt 4096 geometry.page || not (geometry.page % 8 == 0)) ≡ false
 page-fits geometry within = rw within.page_eights (grind (arith, nat_tests, within.page_low, within.page_high))
 
@@ -67,9 +65,6 @@ indexed-fits None buckets is = refl
 indexed-fits (Some place) None is = absurd (search (rules, is))
 indexed-fits (Some place) (Some buckets) is = refl
 
-columns-fit : (n : ℕ) → 1 ≤ n → (n == 0) ≡ false
-columns-fit n some = grind (arith, nat_tests, some)
-
 fields-pass : (config : TableConfig) → IsWithinLimits config → first_fault (field_faults config) ≡ None
 fields-pass config limits =
     let rows : (nat_lt config.rows.blocks 3 || nat_lt 16384 config.rows.blocks) ≡ false = grind (arith, nat_tests, limits.rows.0, limits.rows.1) in
@@ -77,18 +72,13 @@ fields-pass config limits =
     rw (
       page-fits config.geometry limits.geometry,
       block-fits config.geometry limits.geometry,
-      columns-fit (length config.columns.items) limits.some_columns,
+      not_zero (length config.columns.items) limits.some_columns,
       rows,
       ring-fits config.index limits.index,
       ring-fits config.var limits.var,
       indexed-fits config.index config.buckets limits.buckets,
       error,
     ) refl
-
--- the first of tests that all pass, and the others
-pub first-passes : (test : Bool) (fault : ConfigFault) (tests : List (Bool × ConfigFault)) → first_fault ((test, fault) ∷ tests) ≡ None → (test ≡ false) × (first_fault tests ≡ None)
-first-passes true fault tests none = absurd (cc)
-first-passes false fault tests none = (refl, none)
 
 -- what the last tests decide, where they all pass
 pub record Passes (a b c d e : Bool) : Type 0 where
@@ -128,15 +118,6 @@ pub size-is : (geometry : Geometry) (before own few log total : ℕ) → own + l
 size-is geometry before own few log total sum same =
     let is : before + total ≡ before + own + log = omega (arith, sum) in
     ap (λ n. pages_misfit geometry n) is ∙ sym same
-
--- no device has room for so many blocks
-pub many-misfit : (geometry : Geometry) (others blocks : ℕ) → IsWithin geometry → 65537 ≤ blocks → pages_misfit geometry (others + blocks) ≡ true
-many-misfit geometry others blocks within many =
-    let some : 65537 ≤ others + blocks = omega (arith, many) in
-    let one : 1 ≤ geometry.block = omega (arith, within.block_low) in
-    let pages : 65537 * 1 ≤ (others + blocks) * geometry.block = mul-le-mul some one in
-    let large : nat_lt 65536 ((others + blocks) * geometry.block) ≡ true = grind (arith, nat_tests, pages) in
-    rw large refl
 
 -- a table that its line doesn't refuse isn't refused by itself
 pub passes-alone : (config : TableConfig) (blocks : ℕ) (plan : Plan) (label : LineLabel) (log : Option ℕ) → plan_with label config ≡ plan → IsWithinLimits config → bad_blob_limit plan ≡ false →

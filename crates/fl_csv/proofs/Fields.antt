@@ -1,5 +1,5 @@
 -- The fields of a record, one after another.
-use Rattle.std.proofs.Common.{◌≡◌, ℕ, ◌+◌, ◌<◌, ◌≤◌, zero, suc, ℤ, List, [], ◌∷◌, ◌++◌, Option, Some, None, Result, Ok, Err, Bor, length, take, drop, get_or, refl, sym, ◌∙◌, ap, arith, append_assoc, length-append, length-take, length-drop, eqb, eqb-true, true, map}
+use Rattle.std.proofs.Common.{◌≡◌, ℕ, ◌+◌, ◌<◌, zero, suc, ℤ, List, [], ◌∷◌, ◌++◌, Option, Some, None, Result, Ok, Err, Bor, length, take, drop, get_or, refl, sym, ◌∙◌, ap, arith, append_assoc, length-append, length-take, length-drop, eqb, eqb-true, true, map}
 use Rattle.std.specs.Prelude.{unwrap_or, option_map}
 use Rattle.std.proofs.lemmas.List.{append-nil, at_drop_more, at_drop_all, get_or-drop, get_or-take, length-map, map-append}
 use Rattle.csv.specs.Records.{field_at}
@@ -20,10 +20,6 @@ field-or found other (field ∷ fields) (suc i) h e = field-or found other field
 -- values, and those that are still to be read
 abbrev pub after : List ℤ → Result (List ℤ) CsvRefusal → Result (List ℤ) CsvRefusal
 after done rest = rest >>= λ values. Ok (done ++ values)
-
-pub after-none : (rest : Result (List ℤ) CsvRefusal) → rest ≡ after [] rest
-after-none (Ok values) = refl
-after-none (Err e) = refl
 
 after-one : (done : List ℤ) (value : ℤ) (rest : Result (List ℤ) CsvRefusal)
     → after done (rest >>= λ values. Ok (value ∷ values)) ≡ after (done ++ value ∷ []) rest
@@ -58,12 +54,6 @@ pub value-bad : (columns i : ℕ) (fields : List (List ℕ)) (done : List ℤ) �
 value-bad columns i fields done lt all h =
     let at = here columns i fields lt all in
     at_drop_more (λ l. after done (values_from (i + 2) l)) (behind columns fields) i [] at.0 ∙ rw (at.1, h) refl
-
-pub values-end : (columns i place : ℕ) (fields : List (List ℕ)) (done : List ℤ) → columns ≤ i
-    → after done (values_from place (drop i (behind columns fields))) ≡ Ok done
-values-end columns i place fields done le =
-    let few = length-take columns (drop 1 fields) in
-    at_drop_all (λ l. after done (values_from place l)) (behind columns fields) i (omega (arith, few)) ∙ ap Ok (append-nil done)
 
 -- ---- fields taken one after another
 

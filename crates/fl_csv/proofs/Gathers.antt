@@ -1,13 +1,11 @@
 -- The line of a record, gathered and written piece by piece.
-use Rattle.std.proofs.Common.{◌≡◌, ℕ, ◌+◌, ◌<◌, ◌≤◌, ℤ, Option, List, [], ◌∷◌, ◌++◌, length, drop, get_or, map, refl, sym, subst, ◌∙◌, ap, append_assoc}
+use Rattle.std.proofs.Common.{◌≡◌, ℕ, ◌+◌, ◌<◌, ◌≤◌, ℤ, Option, List, [], ◌∷◌, ◌++◌, length, drop, get_or, map, sym, subst, ◌∙◌, ap, append_assoc}
 use Rattle.std.specs.Fmt.{signed_decimal}
 use Rattle.std.specs.List.{flat_map}
-use Rattle.std.proofs.lemmas.Grind.{flat_map-append}
-use Rattle.std.proofs.lemmas.List.{append-nil, at_drop_more, at_drop_all}
+use Rattle.std.proofs.lemmas.List.{at_drop_more, at_drop_all}
 use Rattle.fl_base.specs.Causes.{Appends}
-use Rattle.fl_words.specs.Reply.{hex_text}
 use Rattle.fl_script.proofs.SinkPieces.{Sent, sent-piece}
-use Rattle.fl_csv.specs.Text.{Blob, Absent, Nothing, Bytes, Gone, blob_digits, blob_fields, blob_mark, line_text}
+use Rattle.fl_csv.specs.Text.{Blob, blob_digits, blob_mark}
 
 abbrev behind : List (List ℕ) → List ℕ
 behind fields = flat_map (λ f. 44 ∷ f) fields
@@ -19,23 +17,9 @@ values_text values = behind (map signed_decimal values)
 abbrev pub tail_text : Blob → List ℕ
 tail_text blob = blob_mark blob ++ (blob_digits blob ++ 10 ∷ [])
 
-tail-is : (blob : Blob) → behind (blob_fields blob) ++ 10 ∷ [] ≡ tail_text blob
-tail-is Absent = refl
-tail-is Nothing = refl
-tail-is (Bytes []) = refl
-tail-is (Bytes (byte ∷ bytes)) = ap (λ l. (44 ∷ l) ++ 10 ∷ []) (append-nil (hex_text (byte ∷ bytes)))
-tail-is Gone = refl
-
 -- what is left behind so many values
 abbrev pub left_at : List ℤ → Blob → ℕ → List ℕ
 left_at values blob i = values_text (drop i values) ++ tail_text blob
-
-pub line-parts : (key : List ℕ) (values : List ℤ) (blob : Blob) → key ++ left_at values blob 0 ≡ line_text (key ∷ (map signed_decimal values ++ blob_fields blob))
-line-parts key values blob =
-    ap (λ l. key ++ (values_text values ++ l)) (sym (tail-is blob))
-    ∙ ap (λ l. key ++ l) (sym (append_assoc (values_text values) (behind (blob_fields blob)) (10 ∷ [])))
-    ∙ ap (λ l. key ++ (l ++ 10 ∷ [])) (sym (flat_map-append (λ f. 44 ∷ f) (map signed_decimal values) (blob_fields blob)))
-    ∙ sym (append_assoc key (behind (map signed_decimal values ++ blob_fields blob)) (10 ∷ []))
 
 -- a piece of what is left was written
 pub flushed : (before mid now : Option (List ℕ)) (bytes line left piece : List ℕ) → piece ≡ line → Sent before mid bytes (line ++ left) → Appends mid now piece → Sent before now bytes left

@@ -11,6 +11,8 @@ use Rattle.std.proofs.lemmas.List.{length-map, get_or-append-add}
 use Rattle.std.proofs.lemmas.Str.Parse.{digit_from_value}
 use Rattle.std.proofs.Math.Seq.{take-append_seam}
 use Rattle.fl_model.specs.Record.{Record}
+use Rattle.fl_model.proofs.Lists.{each-weaker}
+use Rattle.fl_script.proofs.Numbers.{decimal-number}
 use Rattle.fl_csv.specs.Text.{blob_fields, entry_fields, joined}
 use Rattle.fl_csv.specs.Lines.{blob_in, fields_put, line_fields, record_put, values_from, wanted_fields}
 use Rattle.fl_csv.specs.Laws.{Fits, IsBlob, IsValue, LinesReadBack, blob_told, entry_of}
@@ -18,7 +20,7 @@ use Rattle.fl_csv.specs.declared.record.CsvRefusal.TheVariants as refusal
 use Rattle.fl_csv.specs.declared.record.GoneBlobs.{GoneBlobs}
 use Rattle.fl_csv.specs.declared.record.GoneBlobs.TheVariants.{Refused, LeftOut}
 use Rattle.fl_csv.proofs.Blobs.{blob-written, never-left}
-use Rattle.fl_csv.proofs.Numbers.{decimal-number, signed-written}
+use Rattle.fl_csv.proofs.Numbers.{signed-written}
 use Rattle.fl_csv.proofs.Plain.{ArePlain, IsPlain, blob-plain, decimal-plain, values-plain}
 use Rattle.fl_csv.proofs.BareLines.{only-joined}
 
@@ -27,8 +29,7 @@ as-fits (pos n) h = record { sfits = omega (arith, h) }
 as-fits (negsuc n) h = record { sfits = omega (arith, h) }
 
 pub all-fit : (values : List ℤ) → AllByRecursion IsValue values → AllByRecursion (FitsSigned w64) values
-all-fit [] h = tt
-all-fit (value ∷ values) h = (as-fits value h.0, all-fit values h.1)
+all-fit values h = each-weaker IsValue (FitsSigned w64) as-fits values h
 
 -- a word of digits and fields behind it
 only-digits : (word : List ℕ) (rest : List (List ℕ)) → 0 < length word → AllDigits 10 word → IsPlain word → ArePlain rest
@@ -59,7 +60,7 @@ put-back gone columns blobs stored fits =
     let words = map signed_decimal stored.values in
     let last = blob_fields (blob_told blobs stored.blob) in
     let count : length words ≡ columns = length-map stored.values signed_decimal ∙ fits.count in
-    let key = decimal-number stored.key fits.key in
+    let key = decimal-number stored.key (omega (arith, fits.key)) in
     let front : take columns (words ++ last) ≡ words = rw (← count) (take-append_seam words last) in
     let values = values-back 2 stored.values fits.values in
     let at : get_or (words ++ last) columns [] ≡ get_or last 0 [] = rw (← count) (ap (λ n. get_or (words ++ last) n []) (sym (add-zero (length words))) ∙ get_or-append-add words last 0 []) in

@@ -1,11 +1,10 @@
 -- The line of the names, written piece by piece.
-use Rattle.std.proofs.Common.{◌≡◌, ℕ, ◌+◌, ◌-◌, ◌<◌, suc, Bool, true, false, Option, Some, None, Result, Ok, Err, List, [], ◌∷◌, ◌++◌, refl, sym, ◌∙◌, ap, arith, codes, decimal, append_assoc, if◌then◌else◌}
+use Rattle.std.proofs.Common.{◌≡◌, ℕ, ◌+◌, ◌-◌, ◌<◌, suc, Bool, true, false, Option, Result, Ok, Err, List, [], ◌∷◌, ◌++◌, refl, sym, ◌∙◌, ap, arith, codes, decimal, append_assoc, if◌then◌else◌}
 use Rattle.std.specs.List.{flat_map}
 use Rattle.std.proofs.lemmas.Grind.{flat_map-append}
 use Rattle.std.proofs.lemmas.List.{append-nil}
-use Rattle.fl_base.specs.Causes.{Appends}
 use Rattle.fl_script.specs.Written.{Written}
-use Rattle.fl_script.proofs.SinkPieces.{Sent, sent-piece, sent-failed}
+use Rattle.fl_script.proofs.SinkPieces.{Sent, sent-piece, sent-failed, sent-all}
 use Rattle.fl_csv.specs.Text.{column_names, header_text}
 
 abbrev pub last_text : Bool → List ℕ
@@ -39,25 +38,9 @@ header-end columns blobs i is =
     let e : columns - i ≡ 0 = omega (arith, is) in
     rw e refl
 
-appends-none : (x : Option (List ℕ)) → Appends x x []
-appends-none None = tt
-appends-none (Some xs) = ap Some (sym (append-nil xs))
-
-pub sent-start : (x : Option (List ℕ)) (bytes : List ℕ) → Sent x x bytes bytes
-sent-start x bytes = record { front = []; parts = refl; appended = appends-none x }
-
-pub sent-err : {E : Type 0} (before mid now : Option (List ℕ)) (bytes left rest piece : List ℕ) (e f : E) → Sent before mid bytes left
-    → Written mid now (Err e) piece → piece ++ rest ≡ left → Written before now (Err f) bytes
-sent-err before mid now bytes left rest piece e f sent wrote is = sent-failed before mid now bytes left rest piece sent wrote is
-
-whole : (before now : Option (List ℕ)) (bytes : List ℕ) (sent : Sent before now bytes []) → Appends before now bytes
-whole before now bytes sent =
-    let e : sent.front ≡ bytes = sym (append-nil sent.front) ∙ sent.parts in
-    rw e at sent.appended
-
 pub sent-last : {E : Type 0} (before mid now : Option (List ℕ)) (bytes left piece : List ℕ) (result : Result (Unit {0}) E) → Sent before mid bytes left
     → Written mid now result piece → piece ≡ left → Written before now result bytes
 sent-last before mid now bytes left piece (Ok done) sent wrote is =
-    whole before now bytes (sent-piece before mid now bytes left [] piece sent wrote (append-nil piece ∙ is))
+    sent-all before now bytes (sent-piece before mid now bytes left [] piece sent wrote (append-nil piece ∙ is))
 sent-last before mid now bytes left piece (Err e) sent wrote is =
     sent-failed before mid now bytes left [] piece sent wrote (append-nil piece ∙ is)

@@ -1,12 +1,14 @@
 -- The text of records that fit means those records.
-use Rattle.std.proofs.Common.{◌≡◌, ℕ, ◌+◌, ◌<◌, ◌≤◌, zero, suc, Bool, true, false, eqb, List, [], ◌∷◌, ◌++◌, length, drop, map, Ok, codes, refl, ◌∙◌, ap, arith, append_assoc, if◌then◌else◌}
+use Rattle.std.proofs.Common.{◌≡◌, ℕ, ◌+◌, ◌≤◌, zero, suc, Bool, true, false, eqb, List, [], ◌∷◌, ◌++◌, drop, map, Ok, codes, refl, ◌∙◌, ap, arith, append_assoc, if◌then◌else◌}
 use Rattle.std.specs.Prelude.{All}
 use Rattle.std.specs.List.{AllByRecursion, flat_map, slice_split}
 use Rattle.std.proofs.lemmas.Bool.Decides.{nat_tests}
 use Rattle.std.proofs.lemmas.List.Elements.{All-cons, All-nil}
 use Rattle.std.proofs.lemmas.List.Splits.{slice_split_at, length-slice_split}
 use Rattle.fl_model.specs.Record.{Record}
+use Rattle.fl_model.proofs.Lists.{each-append, each-weaker}
 use Rattle.fl_words.specs.Grammar.{lines_of, no_empty_last, without_return}
+use Rattle.fl_words.proofs.Lines.{no_empty-last}
 use Rattle.fl_csv.specs.Text.{column_names, entry_fields, entry_text, header_fields, joined, blob_fields}
 use Rattle.fl_csv.specs.Lines.{line_put}
 use Rattle.fl_csv.specs.Laws.{Fits, HeadersReadBack, TextsReadBack, blob_told, entry_of}
@@ -19,21 +21,16 @@ use Rattle.fl_csv.proofs.BareLines.{only-joined}
 abbrev IsLine : List ℕ → Type 0
 IsLine line = AllByRecursion (λ byte. 32 ≤ byte) line
 
-line-append : (xs ys : List ℕ) → IsLine xs → IsLine ys → IsLine (xs ++ ys)
-line-append [] ys h k = k
-line-append (x ∷ xs) ys h k = (h.0, line-append xs ys h.1 k)
-
 plain-line : (field : List ℕ) → IsPlain field → IsLine field
-plain-line [] h = tt
-plain-line (byte ∷ bytes) h = (omega (arith, h.0), plain-line bytes h.1)
+plain-line field h = each-weaker (λ byte. 45 ≤ byte) (λ byte. 32 ≤ byte) (λ byte le. omega (arith, le)) field h
 
 rest-line : (fields : List (List ℕ)) → ArePlain fields → IsLine (flat_map (λ f. 44 ∷ f) fields)
 rest-line [] h = tt
-rest-line (field ∷ fields) h = (omega arith, line-append field (flat_map (λ f. 44 ∷ f) fields) (plain-line field h.0) (rest-line fields h.1))
+rest-line (field ∷ fields) h = (omega arith, each-append (λ byte. 32 ≤ byte) field (flat_map (λ f. 44 ∷ f) fields) (plain-line field h.0) (rest-line fields h.1))
 
 joined-line : (fields : List (List ℕ)) → ArePlain fields → IsLine (joined fields)
 joined-line [] h = tt
-joined-line (field ∷ fields) h = line-append field (flat_map (λ f. 44 ∷ f) fields) (plain-line field h.0) (rest-line fields h.1)
+joined-line (field ∷ fields) h = each-append (λ byte. 32 ≤ byte) field (flat_map (λ f. 44 ∷ f) fields) (plain-line field h.0) (rest-line fields h.1)
 
 no-feed : (line : List ℕ) → IsLine line → All (λ byte. eqb byte 10 ≡ false) line
 no-feed [] h = All-nil (λ byte. eqb byte 10 ≡ false)
@@ -48,15 +45,11 @@ same-line (byte ∷ []) h =
     rw other refl
 same-line (byte ∷ next ∷ bytes) h = ap (λ l. byte ∷ l) (same-line (next ∷ bytes) h.1)
 
-not-last : (line : List ℕ) (parts : List (List ℕ)) → 0 < length parts → no_empty_last (line ∷ parts) ≡ line ∷ no_empty_last parts
-not-last line [] h = absurd (omega arith)
-not-last line (part ∷ parts) h = refl
-
 first-line : (line rest : List ℕ) → IsLine line → lines_of ((line ++ 10 ∷ []) ++ rest) ≡ line ∷ lines_of rest
 first-line line rest h =
     ap lines_of (append_assoc line (10 ∷ []) rest)
     ∙ ap no_empty_last (slice_split_at (λ byte. eqb byte 10) line 10 rest (no-feed line h) refl)
-    ∙ not-last line (slice_split (λ byte. eqb byte 10) rest) (omega (arith, length-slice_split (λ byte. eqb byte 10) rest))
+    ∙ no_empty-last line (slice_split (λ byte. eqb byte 10) rest) (omega (arith, length-slice_split (λ byte. eqb byte 10) rest))
 
 -- the line of the names
 names-plain : (first count : ℕ) → first + count ≤ 9 → (others : List (List ℕ)) → ArePlain others → ArePlain (column_names first count ++ others)

@@ -6,6 +6,7 @@ use Rattle.std.proofs.lemmas.Bool.{leb-false, le-leb}
 use Rattle.fl_find.specs.Pages.{first_key}
 use Rattle.fl_model.specs.Row.{Row}
 use Rattle.fl_model.specs.Spline.{page_at}
+use Rattle.fl_model.proofs.Lists.{each-front, each-weaker}
 use Rattle.fl_frame.specs.Contents.{Contents}
 use Rattle.fl_page.specs.Steps.{Ascends}
 use Rattle.fl_search.specs.Search.{IsPageOf}
@@ -24,7 +25,7 @@ use Rattle.fl_cursor.specs.declared.cursor.Cursor.{Cursor}
 use Rattle.fl_cursor.specs.declared.place.Place.TheVariants.{Pages, Pending}
 use Rattle.fl_cursor.proofs.LowestPage.{standing-start}
 use Rattle.fl_cursor.proofs.IndexLookups.{due-nothing, looked-over}
-use Rattle.fl_cursor.proofs.PassedRows.{Above, ascends-behind, each-front, each-weaker, none-past, passes-over, passes-same}
+use Rattle.fl_cursor.proofs.PassedRows.{Above, ascends-behind, none-past, passes-over, passes-same}
 use Rattle.fl_cursor.proofs.TakenRows.{moves-on}
 use Rattle.fl_cursor.proofs.Walks.{asked-over}
 
@@ -41,7 +42,7 @@ over-above t contents key (suc n) number before rest none up =
     by_rows (row ∷ rows) begins later up =
         let lt : key < row.key = leb-false row.key key begins in
         let greater = ascends-behind None before row ((rows ++ rows_over t contents (number + 1) n) ++ rest) up in
-        (lt, each-front (λ x. key < x.key) (rows ++ rows_over t contents (number + 1) n) rest (each-weaker (λ x. row.key < x.key) (λ x. key < x.key) ((rows ++ rows_over t contents (number + 1) n) ++ rest) (λ x le. omega (arith, lt, le)) greater))
+        (lt, each-front (λ x. key < x.key) (rows ++ rows_over t contents (number + 1) n) rest (each-weaker (λ x. row.key < x.key) (λ x. key < x.key) (λ x le. omega (arith, lt, le)) ((rows ++ rows_over t contents (number + 1) n) ++ rest) greater))
 
 -- behind these pages are the pending rows
 pages-past : {KNOTS SLOTS : ℕ} (old : Cursor KNOTS SLOTS) (next key : ℕ) → old.place ≡ Pages next → is_last (asked_of old).top key ≡ true → (contents : Contents) (reads : ℕ) →

@@ -6,7 +6,7 @@ use Rattle.std.proofs.lemmas.Bool.{le-leb, leb-false, false≢true, not-true}
 use Rattle.fl_base.specs.declared.types.Span.{Span}
 use Rattle.fl_model.specs.Query.{Cursor, is_above, is_up_to}
 use Rattle.fl_model.specs.Row.{Row}
-use Rattle.fl_model.proofs.Lists.{all-back}
+use Rattle.fl_model.proofs.Lists.{each-back, each-front}
 use Rattle.fl_frame.specs.Contents.{Contents}
 use Rattle.fl_page.specs.Steps.{Ascends}
 use Rattle.fl_table.specs.Look.{buffered_rows}
@@ -18,7 +18,7 @@ use Rattle.fl_cursor.specs.Cursor.{Passes}
 use Rattle.fl_cursor.specs.Listed.{rows_on, rows_over, rows_from}
 use Rattle.fl_cursor.specs.Reads.{begins_above, has_full, has_last, is_beyond, is_indexed_in, pages_asked, pages_looked_up}
 use Rattle.fl_cursor.proofs.IndexLookups.{looked-over, none-up}
-use Rattle.fl_cursor.proofs.PassedRows.{NotLeft, each-front, none-asked, none-past, passes-above, passes-same}
+use Rattle.fl_cursor.proofs.PassedRows.{NotLeft, none-asked, none-past, passes-above, passes-same}
 use Rattle.fl_cursor.proofs.Walks.{asked-over}
 
 -- a page without rows doesn't begin above a key
@@ -64,7 +64,7 @@ past-beyond t contents asked next before all ascends passes begins = by_rows (ro
         let above = passes-above asked all (rest ++ rows_from t contents (next + 1)) row ascends
         (passes-same asked all (rows_on t contents next ++ rows_from t contents (next + 1)) (row ∷ (rest ++ rows_from t contents (next + 1))) (ap (λ (rows : List Row). rows ++ rows_from t contents (next + 1)) is) passes) in
         let rest_above = each-front (λ x. row.key < x.key) rest (rows_from t contents (next + 1)) above in
-        let later_above = each-front (λ x. row.key < x.key) (rows_over t contents (next + 1) (next_in t - (next + 1))) (buffered_rows t) (all-back (λ x. row.key < x.key) rest (rows_from t contents (next + 1)) above) in
+        let later_above = each-front (λ x. row.key < x.key) (rows_over t contents (next + 1) (next_in t - (next + 1))) (buffered_rows t) (each-back (λ x. row.key < x.key) rest (rows_from t contents (next + 1)) above) in
         let row_left = ap (λ b. (row_matches asked.range asked.span row && is_above asked.after row.key) && b) key.0 ∙ and-false (row_matches asked.range asked.span row && is_above asked.after row.key) in
         let row_asked = ap (λ b. row_matches asked.range asked.span row && b) key.0 ∙ and-false (row_matches asked.range asked.span row) in
         let here_asked : list_any (is_asked asked) (rows_on t contents next) ≡ false = ap (list_any (is_asked asked)) is ∙ (ap (λ b. b || list_any (is_asked asked) rest) row_asked ∙ none-asked asked row.key rest key.1 rest_above) in

@@ -1,21 +1,20 @@
 -- A cursor in a page: it takes a row, or goes on behind the page.
-use Rattle.std.proofs.Common.{◌≡◌, ℕ, suc, ◌+◌, ◌-◌, ◌^◌, ◌<◌, ◌≤◌, ◌/◌, true, false, ◌&&◌, cond, ◌==◌, nat_lt, nat_le, Option, Some, None, unwrap_or, List, [], ◌∷◌, ◌++◌, length, drop, refl, sym, ◌∙◌, ap, subst, arith}
+use Rattle.std.proofs.Common.{◌≡◌, ℕ, suc, ◌+◌, ◌-◌, ◌^◌, ◌<◌, ◌≤◌, true, false, ◌&&◌, cond, nat_lt, nat_le, Option, Some, None, unwrap_or, List, [], ◌∷◌, ◌++◌, length, drop, refl, sym, ◌∙◌, ap, subst, arith}
 use Rattle.std.specs.List.{slice_get}
-use Rattle.std.proofs.lemmas.Bool.{lt-ltb, le-leb, leb-true, eq-eqb, eqb-true}
+use Rattle.std.proofs.lemmas.Bool.{lt-ltb, le-leb}
 use Rattle.std.proofs.lemmas.List.{drop-drop}
 use Rattle.std.proofs.lemmas.Option.{same_Some}
-use Rattle.fl_model.specs.Record.{RowLayout, layout_len}
 use Rattle.fl_model.specs.Row.{Row}
-use Rattle.fl_model.proofs.Lists.{slice_get-drop, slice_get-short, all-back}
+use Rattle.fl_model.proofs.Lists.{slice_get-drop, slice_get-short, each-back, each-front}
 use Rattle.fl_frame.specs.Contents.{Contents}
-use Rattle.fl_page.specs.Header.{page_number, page_count}
-use Rattle.fl_page.specs.Page.{IsGoodPage, rows_in, has_form}
+use Rattle.fl_page.specs.Header.{page_count}
+use Rattle.fl_page.specs.Page.{rows_in}
 use Rattle.fl_page.proofs.RowsFrom.{length-rows_from}
+use Rattle.fl_page.proofs.Views.{good-form}
 use Rattle.fl_table.specs.Look.{layout_in, oldest_in, buffered_rows}
 use Rattle.fl_table.specs.Memory.{next_in}
 use Rattle.fl_parts.specs.Skipping.{AreScanning, due_of}
 use Rattle.fl_cursor.specs.Asked.{is_left, is_last}
-use Rattle.fl_cursor.specs.Ascending.{both}
 use Rattle.fl_cursor.specs.Cursor.{table_of, asked_of, buffer_of, index_page, is_here_at, rows_behind, Passes, IsPlaced, IsTold, IsLooking}
 use Rattle.fl_cursor.specs.Going.{Goes, took}
 use Rattle.fl_cursor.specs.Listed.{rows_from, rows_over, rows_of}
@@ -27,24 +26,9 @@ use Rattle.fl_cursor.specs.declared.place.Place.TheVariants.{Pages, InPage, Ende
 use Rattle.fl_cursor.specs.declared.search.Sought.TheVariants.{Row as At, Behind, Nowhere}
 use Rattle.fl_cursor.specs.declared.place.Place.{Place}
 use Rattle.fl_cursor.proofs.IndexLookups.{due-nothing, looked-over}
-use Rattle.fl_cursor.proofs.PassedRows.{passes-all, passes-same, passes-end, passes-above, none-past, taken, each-front, Above}
+use Rattle.fl_cursor.proofs.PassedRows.{passes-all, passes-same, passes-end, passes-above, none-past, taken, Above}
 use Rattle.fl_cursor.proofs.TakenRows.{takes-row, moves-on, pages-taken}
 use Rattle.fl_cursor.proofs.Walks.{reached, passed, stopped, asked-over}
-
--- a good page is seen as one
-pub good-seen : (layout : RowLayout) (number : ℕ) (page : List ℕ) → IsGoodPage layout number page → has_form layout number page ≡ true
-good-seen layout number page good =
-    let number_is : (page_number page == number) ≡ true = ap (λ n. n == number) good.number_is ∙ eq-eqb number number refl in
-    ap (λ b. (b && nat_le 1 (page_count page)) && nat_le (page_count page) ((length page - 24) / layout_len layout)) number_is
-    ∙ (ap (λ b. b && nat_le (page_count page) ((length page - 24) / layout_len layout)) (le-leb 1 (page_count page) good.some)
-    ∙ le-leb (page_count page) ((length page - 24) / layout_len layout) good.room)
-
--- .. and one that is seen as one is good
-pub seen-good : (layout : RowLayout) (number : ℕ) (page : List ℕ) → has_form layout number page ≡ true → IsGoodPage layout number page
-seen-good layout number page form =
-    let fits = both ((page_number page == number) && nat_le 1 (page_count page)) (nat_le (page_count page) ((length page - 24) / layout_len layout)) form in
-    let some = both (page_number page == number) (nat_le 1 (page_count page)) fits.0 in
-    record { number_is = eqb-true (page_number page) number some.0; some = leb-true 1 (page_count page) some.1; room = leb-true (page_count page) ((length page - 24) / layout_len layout) fits.1 }
 
 -- the same row
 pub same-row : (rows : List Row) (from j k : ℕ) (r row : Row) → k ≡ from + j → slice_get (drop from rows) j ≡ Some r → slice_get rows k ≡ Some row → r ≡ row
@@ -81,7 +65,7 @@ module _ {KNOTS SLOTS : ℕ} (old : Cursor KNOTS SLOTS) (number row : ℕ) (here
   -- no page behind the last key is asked for
   none-behind : (key : ℕ) (front : List Row) → is_last (asked_of old).top key ≡ true → Above key (front ++ rest) → least_from (table_of old) contents (asked_of old) (index_page old) old.place ≡ 0
   none-behind key front last above =
-      let behind = all-back (λ r. key < r.key) front rest above in
+      let behind = each-back (λ r. key < r.key) front rest above in
       let over = each-front (λ r. key < r.key) (rows_over (table_of old) contents (number + 1) (next_in (table_of old) - (number + 1))) (buffered_rows (table_of old)) behind in
       let asked = asked-over (table_of old) contents (asked_of old) key (next_in (table_of old) - (number + 1)) (number + 1) last over in
       let looked : index_least (table_of old) contents (asked_of old) (index_page old) (number + 1) ≡ 0 =
@@ -108,7 +92,7 @@ module _ {KNOTS SLOTS : ℕ} (old : Cursor KNOTS SLOTS) (number row : ℕ) (here
     where
       is-here : {k : ℕ} → k < page_count (buffer_of old) → length (buffer_of old) ≤ 4096 → is_here_at (table_of old) (buffer_of old) (PageRow number k) ≡ true
       is-here {k} within short =
-          ap (λ b. (b && nat_lt k (page_count (buffer_of old))) && nat_le (length (buffer_of old)) 4096) (good-seen (layout_in (table_of old)) number (buffer_of old) placed.2)
+          ap (λ b. (b && nat_lt k (page_count (buffer_of old))) && nat_le (length (buffer_of old)) 4096) (good-form (layout_in (table_of old)) number (buffer_of old) placed.2)
           ∙ (ap (λ b. b && nat_le (length (buffer_of old)) 4096) (lt-ltb k (page_count (buffer_of old)) within) ∙ le-leb (length (buffer_of old)) 4096 short)
 
       told-row : IsTold old contents → (k : ℕ) (found : Row) → slice_get rows k ≡ Some found → At k ≡ first_left (asked_of old) (drop row rows) row →

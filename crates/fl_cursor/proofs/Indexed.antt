@@ -1,8 +1,7 @@
 -- A look at the index, for the page that comes next.
-use Rattle.std.proofs.Common.{◌≡◌, inl, inr, ℕ, ◌+◌, ◌-◌, ◌<◌, ◌≤◌, Bool, true, false, not, cond, Option, Some, None, Result, Ok, Err, IfOk, IsTrue, List, [], length, refl, sym, ◌∙◌, ap, subst, arith}
+use Rattle.std.proofs.Common.{◌≡◌, inl, inr, ℕ, ◌+◌, ◌-◌, ◌<◌, ◌≤◌, Bool, true, false, not, cond, Option, Some, None, Result, Ok, Err, IfOk, IsTrue, List, [], length, refl, sym, ◌∙◌, ap, subst, pos_of_ne-zero}
 use Rattle.std.specs.Borrow.{MutBor}
 use Rattle.std.specs.List.{slice_get, list_any}
-use Rattle.std.proofs.lemmas.Bool.{cases_lt}
 use Rattle.std.proofs.lemmas.Option.{none-some}
 use Rattle.fl_base.specs.declared.types.KeyRange.{KeyRange}
 use Rattle.fl_flash.specs.Buffer.{BufferState}
@@ -93,11 +92,11 @@ module _ {KNOTS SLOTS : ℕ} (old : Cursor KNOTS SLOTS) (next : ℕ) (here_is : 
     looks = λ told. looks told.standing.first told.standing.plan told.standing.table (tells told) (stands told) (known told) (scanning told);
     shows = λ told some. by_result told some result
         (shows told.standing.first told.standing.plan told.standing.table (next - rings.oldest told.standing.table.rows) (rows_noted (table_of old) next) (tells told) (stands told) (known told)
-        (sym (back (table_of old) (contents_of f) told.standing next from)) (at-number (table_of old) (contents_of f) told.standing next from before) (not_zero (rows_noted (table_of old) next) some));
+        (sym (back (table_of old) (contents_of f) told.standing next from)) (at-number (table_of old) (contents_of f) told.standing next from before) (pos_of_ne-zero some));
     misses = λ told some missed.
         let none = none-matches (asked_of old) (rows_at told.standing.table (next - rings.oldest told.standing.table.rows) (rows_noted (table_of old) next))
         (misses told.standing.first told.standing.plan told.standing.table (next - rings.oldest told.standing.table.rows) (rows_noted (table_of old) next) (asked_of old).range (tells told) (stands told) (known told)
-        (sym (back (table_of old) (contents_of f) told.standing next from)) (at-number (table_of old) (contents_of f) told.standing next from before) (not_zero (rows_noted (table_of old) next) some) missed) in
+        (sym (back (table_of old) (contents_of f) told.standing next from)) (at-number (table_of old) (contents_of f) told.standing next from before) (pos_of_ne-zero some) missed) in
         let rows = rows-are (table_of old) (contents_of f) told.standing next from before in
         let entries = rows_at told.standing.table (next - rings.oldest told.standing.table.rows) (rows_noted (table_of old) next) in
         (subst (λ (xs : List Row). NotLeft (asked_of old) xs) (sym rows) (unmatched-left (asked_of old) entries none), ap (list_any (is_asked (asked_of old))) rows ∙ unmatched-asked (asked_of old) entries none);
@@ -115,15 +114,12 @@ module _ {KNOTS SLOTS : ℕ} (old : Cursor KNOTS SLOTS) (next : ℕ) (here_is : 
       scanning : IsTold old (contents_of f) → AreScanning (table_of old).bitmaps next (index_page old)
       scanning told = subst (λ (p : Place). IsLooking (table_of old).bitmaps p (index_page old)) here_is told.looking
 
-      not_zero : (n : ℕ) → (n ≡ 0 → ⊥) → 0 < n
-      not_zero n some = elim (cases_lt 0 n) [ inl lt ↦ lt | inr le ↦ absurd (some (omega (arith, le))) ]
-
       by_result : (told : IsTold old (contents_of f)) → (rows_noted (table_of old) next ≡ 0 → ⊥) → (result : Result Ahead ReadFault) →
           ShowsPage told.standing.plan told.standing.table (asked_of old).span (asked_of old).top next (rows_at told.standing.table (next - rings.oldest told.standing.table.rows) (rows_noted (table_of old) next)) result →
           IfOk result (λ ahead. ahead ≡ ahead_at (is_beyond (table_of old) (contents_of f) (asked_of old).span (asked_of old).top next) (is_missed (table_of old) (asked_of old).span next (rows_on (table_of old) (contents_of f) next)))
       by_result told some (Ok ahead) shown =
           let entries = rows_at told.standing.table (next - rings.oldest told.standing.table.rows) (rows_noted (table_of old) next) in
-          let beyond = beyond-same (table_of old) (contents_of f) told.standing next from before (asked_of old).span (asked_of old).top (not_zero (rows_noted (table_of old) next) some) in
+          let beyond = beyond-same (table_of old) (contents_of f) told.standing next from before (asked_of old).span (asked_of old).top (pos_of_ne-zero some) in
           let missed = missed-wanted (table_of old) (contents_of f) told.standing next from before (asked_of old).span in
           shown
           ∙ (ap (cond (skipping.is_beyond told.standing.plan told.standing.table (asked_of old).span (asked_of old).top next entries) Beyond) (swapped (wants_page told.standing.plan told.standing.table (asked_of old).span next entries))

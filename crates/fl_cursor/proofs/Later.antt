@@ -1,7 +1,7 @@
 -- The index pages that list a page with rows after the first one of a scan.
 use Rattle.std.proofs.Common.{◌≡◌, ◌⊎◌, inl, inr, ℕ, zero, suc, ◌+◌, ◌-◌, ◌<◌, ◌≤◌, Bool, true, false, ◌&&◌, ◌||◌, cond, ◌==◌, nat_le, nat_lt, Option, Some, None, unwrap_or, List, [], ◌∷◌, ◌++◌, length, map, take, drop, refl, sym, ◌∙◌, ap, subst, append_assoc, arith}
 use Rattle.std.specs.List.{slice_get, list_any, count_by, sum, AllByRecursion}
-use Rattle.std.proofs.lemmas.Bool.{cases_lt, leb-true, le-leb, ltb-true, false_from_ne_true, true≢false, and_parts}
+use Rattle.std.proofs.lemmas.Bool.{cases_lt, leb-true, le-leb, ltb-true, false_from_ne_true, true≢false, and_parts, or_right}
 use Rattle.std.proofs.lemmas.List.{length-drop}
 use Rattle.std.proofs.lemmas.List.Sums.{sum_by-cons, sum_by-take-le}
 use Rattle.std.proofs.lemmas.Option.{none-some, same_Some}
@@ -21,7 +21,7 @@ use Rattle.fl_model.specs.Ring as rings
 use Rattle.fl_model.specs.Row.{Row, stored_row}
 use Rattle.fl_model.specs.Spline.{pages_from, pages_of, page_at}
 use Rattle.fl_model.specs.Table.{Entry, firsts}
-use Rattle.fl_model.proofs.Lists.{slice_get-short, each-drop, all-back}
+use Rattle.fl_model.proofs.Lists.{slice_get-short, each-drop, each-back, each-front, each-at, any-at, sum_by-next}
 use Rattle.fl_frame.specs.Contents.{Contents}
 use Rattle.fl_page.specs.Steps.{Ascends}
 use Rattle.fl_page.proofs.RowsFrom.{drop-row}
@@ -29,7 +29,6 @@ use Rattle.fl_search.specs.Search.{IsPageOf}
 use Rattle.fl_table.specs.Look.{oldest_in, buffered_rows}
 use Rattle.fl_table.specs.Memory.{next_in}
 use Rattle.fl_table.specs.declared.table.Table.{Table}
-use Rattle.fl_parts.proofs.KeptPages.{sum-next}
 use Rattle.fl_table.proofs.MemoryTells.{next-is, oldest-is}
 use Rattle.fl_table.proofs.IndexStands.{index-stands}
 use Rattle.fl_cursor.specs.Cursor.{IsStanding}
@@ -37,11 +36,9 @@ use Rattle.fl_cursor.specs.Listed.{rows_on, rows_over, rows_of}
 use Rattle.fl_cursor.specs.Reads.{begins_by, start_of, pages_looked_up}
 use Rattle.fl_cursor.proofs.LowestPage.{standing-start, start-is, over-split}
 use Rattle.fl_cursor.proofs.StartSearch.{begins, first-front}
-use Rattle.fl_cursor.proofs.PassedRows.{each-front}
 use Rattle.fl_cursor.proofs.Selected.{all-up}
 use Rattle.fl_cursor.proofs.StartPlaces.{ascends-front}
 use Rattle.fl_cursor.proofs.Stood.{kept-rows, standing-rows, standing-ascends}
-use Rattle.fl_cursor.proofs.IndexLookups.{or-true}
 
 -- ---- pages with rows
 
@@ -105,16 +102,8 @@ looked-any t contents top q (suc n) number k low high up is = elim (cases_lt num
 ]
   where
     by_rows : (b : Bool) → list_any q (pages_looked_up t contents top (number + 1) n) ≡ true → list_any q (cond b (number ∷ pages_looked_up t contents top (number + 1) n) (pages_looked_up t contents top (number + 1) n)) ≡ true
-    by_rows true e = or-true (q number) (list_any q (pages_looked_up t contents top (number + 1) n)) e
+    by_rows true e = or_right (q number) (list_any q (pages_looked_up t contents top (number + 1) n)) e
     by_rows false e = e
-
-first-any : (p : Row → Bool) (rows : List Row) (row : Row) → slice_get rows 0 ≡ Some row → p row ≡ true → list_any p rows ≡ true
-first-any p [] row e is = absurd (none-some row e)
-first-any p (x ∷ rows) row e is = ap (λ b. b || list_any p rows) (ap p (same_Some x row e) ∙ is)
-
-first-each : (P : Row → Type 0) (rows : List Row) (row : Row) → slice_get rows 0 ≡ Some row → AllByRecursion P rows → P row
-first-each P [] row e h = absurd (none-some row e)
-first-each P (x ∷ rows) row e h = subst P (same_Some x row e) h.0
 
 -- the first entry of a page with rows
 record HasFirst (P : Entry → Type 0) (entries : List Entry) : Type 0 where
@@ -136,9 +125,9 @@ module _ {KNOTS SLOTS : ℕ} (t : Table KNOTS SLOTS) (contents : Contents) where
       let at : oldest_in t + k ≡ n = omega (arith, low) in
       let many : next_in t - oldest_in t ≡ k + suc m = omega (arith, low, high) in
       let whole = ap (rows_over t contents (oldest_in t)) many ∙ over-split t contents k (suc m) (oldest_in t) in
-      let part = all-back P (rows_over t contents (oldest_in t) k) (rows_over t contents (oldest_in t + k) (suc m)) (subst (AllByRecursion P) whole all) in
+      let part = each-back P (rows_over t contents (oldest_in t) k) (rows_over t contents (oldest_in t + k) (suc m)) (subst (AllByRecursion P) whole all) in
       let here = each-front P (rows_on t contents n) (rows_over t contents (n + 1) m) (subst (λ j. AllByRecursion P (rows_over t contents j (suc m))) at part) in
-      first-each P (rows_on t contents n) row first here
+      each-at P (rows_on t contents n) 0 row here first
 
 module _ {KNOTS SLOTS : ℕ} (t : Table KNOTS SLOTS) (contents : Contents) (h : IsStanding t contents) where
   -- the rows of an earlier page are below those of a later one
@@ -160,9 +149,9 @@ module _ {KNOTS SLOTS : ℕ} (t : Table KNOTS SLOTS) (contents : Contents) (h : 
       let is_first = drop-row (rows_on t contents b ++ rest) 0 y (first-front (rows_on t contents b) rest y first_y) in
       let ascends = subst (λ (xs : List Row). Ascends None (rows_over t contents (oldest_in t) (k + suc m) ++ xs)) is_first (subst (Ascends None) split (standing-ascends t contents h)) in
       let below = ascends-front None front y (drop 1 (rows_on t contents b ++ rest)) ascends in
-      let part = all-back (λ (r : Row). r.key < y.key) (rows_over t contents (oldest_in t) k) (rows_over t contents (oldest_in t + k) (suc m)) (subst (AllByRecursion (λ (r : Row). r.key < y.key)) (over-split t contents k (suc m) (oldest_in t)) below) in
+      let part = each-back (λ (r : Row). r.key < y.key) (rows_over t contents (oldest_in t) k) (rows_over t contents (oldest_in t + k) (suc m)) (subst (AllByRecursion (λ (r : Row). r.key < y.key)) (over-split t contents k (suc m) (oldest_in t)) below) in
       let here = each-front (λ (r : Row). r.key < y.key) (rows_on t contents a) (rows_over t contents (a + 1) m) (subst (λ j. AllByRecursion (λ (r : Row). r.key < y.key) (rows_over t contents j (suc m))) at part) in
-      first-each (λ (r : Row). r.key < y.key) (rows_on t contents a) x first_x here
+      each-at (λ (r : Row). r.key < y.key) (rows_on t contents a) 0 x here first_x
     where
       assoc : (a b c d : List Row) → (a ++ (b ++ c)) ++ d ≡ a ++ (b ++ (c ++ d))
       assoc a b c d = append_assoc a (b ++ c) d ∙ ap (λ (xs : List Row). a ++ xs) (append_assoc b c d)
@@ -239,7 +228,7 @@ module _ {KNOTS SLOTS : ℕ} (t : Table KNOTS SLOTS) (contents : Contents) (h : 
           where
             enough : (k : KeptPage (is_later first) (rings.oldest h.table.rows) h.table.rows.counts) → 0 < length (drop (sum (take k.i h.table.rows.counts)) h.table.entries)
             enough k =
-                let next = sum-next (λ (m : ℕ). m) h.table.rows.counts k.i k.c k.here in
+                let next = sum_by-next (λ (m : ℕ). m) h.table.rows.counts k.i k.c k.here in
                 let most = sum_by-take-le (λ (m : ℕ). m) h.table.rows.counts (suc k.i) in
                 omega (arith, next, most, k.some, h.stands.facts.counted, length-drop (sum (take k.i h.table.rows.counts)) h.table.entries)
 
@@ -278,5 +267,5 @@ module _ {KNOTS SLOTS : ℕ} (t : Table KNOTS SLOTS) (contents : Contents) (h : 
             let start = start-is t contents range.low (page_at h.table range.low) (standing-start t contents h range.low) ∙ ap (λ n. unwrap_or (page_at h.table range.low) n) (oldest-is t h.flash h.first h.plan h.table h.stands) in
             let behind : start_of t contents range.low + 1 ≤ l.0 = omega (arith, l.1.behind, start) in
             looked-any t contents (begin range span h.table).top (is_looked_at index page) (next_in t - (start_of t contents range.low + 1)) (start_of t contents range.low + 1) l.0 behind (omega (arith, behind, l.1.within))
-            (first-any (λ row. is_up_to (begin range span h.table).top row.key) (rows_on t contents l.0) l.1.row l.1.is_first l.1.up)
+            (any-at (λ (row : Row). is_up_to (begin range span h.table).top row.key) (rows_on t contents l.0) 0 l.1.row l.1.is_first l.1.up)
             (listed-looked index h.flash (h.first + h.plan.data_blocks) h.plan h.table (index-stands t h.flash h.first h.plan h.table h.stands index is) l.0 page first low high first_is l.1.from l.1.before)

@@ -1,12 +1,12 @@
 -- What a cursor that begins reads at least, in the words of the model.
 use Rattle.std.proofs.Common.{◌≡◌, ℕ, zero, suc, ◌+◌, ◌-◌, ◌<◌, ◌≤◌, Bool, true, false, ◌||◌, cond, ◌==◌, nat_le, nat_lt, Option, Some, None, List, [], ◌∷◌, ◌++◌, length, map, take, drop, refl, sym, ◌∙◌, ap, subst, arith, inl, inr}
 use Rattle.std.specs.List.{slice_get, list_any, count_by, sum, AllByRecursion}
-use Rattle.std.proofs.lemmas.Bool.{cases_lt, leb-true, le-leb, eqb-true, false_from_ne_true, true≢false}
-use Rattle.std.proofs.lemmas.List.{drop-drop}
+use Rattle.std.proofs.lemmas.Bool.{cases_lt, leb-true, le-leb, eqb-true, false_from_ne_true, true≢false, or_right}
+use Rattle.std.proofs.lemmas.List.{drop-drop, drop_all, nil_from_length}
 use Rattle.std.proofs.lemmas.List.Sums.{sum_by-cons}
-use Rattle.std.proofs.lemmas.Option.{none-some}
 use Rattle.fl_base.specs.declared.types.KeyRange.{KeyRange}
 use Rattle.fl_base.specs.declared.types.Span.{Span}
+use Rattle.fl_base.proofs.Tests.{one_fewer, zero_either}
 use Rattle.fl_model.specs.Facts.{is_some_ring, counts_in}
 use Rattle.fl_model.specs.Limits.{asks_values, least_reads}
 use Rattle.fl_model.specs.Query.{Cursor, begin, matches, in_range, in_span, is_up_to}
@@ -16,13 +16,12 @@ use Rattle.fl_model.specs.Ring.{Ring}
 use Rattle.fl_model.specs.Row.{Row, stored_row}
 use Rattle.fl_model.specs.Spline.{pages_from, pages_of}
 use Rattle.fl_model.specs.Table.{Entry, full_pages, firsts}
-use Rattle.fl_model.proofs.Lists.{slice_get-some, each-take, each-drop, drop_none, take_none}
+use Rattle.fl_model.proofs.Lists.{slice_get-some, each-take, each-drop, drop_none, take_none, each-weaker, drop-at, sum_by-next}
 use Rattle.fl_frame.specs.Contents.{Contents}
 use Rattle.fl_page.specs.Steps.{Ascends}
 use Rattle.fl_table.specs.Look.{oldest_in, buffered_rows}
 use Rattle.fl_table.specs.Memory.{next_in}
 use Rattle.fl_table.specs.declared.table.Table.{Table}
-use Rattle.fl_parts.proofs.KeptPages.{sum-next}
 use Rattle.fl_table.proofs.MemoryTells.{next-is, oldest-is}
 use Rattle.fl_cursor.specs.Ascending.{both}
 use Rattle.fl_cursor.specs.Asked.{is_asked, row_matches, lowest_of}
@@ -40,30 +39,13 @@ use Rattle.fl_page.proofs.RowsFrom.{drop-row}
 use Rattle.fl_index.specs.declared.index.BitmapIndex.{BitmapIndex}
 use Rattle.fl_index.specs.Looking.{due, next_to_read}
 use Rattle.fl_index.proofs.Lists.{firsts-length}
-use Rattle.fl_index.proofs.Counts.{one-fewer}
-use Rattle.fl_index.proofs.Spanned.{drop-past}
 use Rattle.fl_parts.specs.Bitmaps.{ArePlanned}
 use Rattle.fl_parts.specs.Skipping.{due_of}
-use Rattle.fl_cursor.proofs.PassedRows.{each-weaker}
 use Rattle.fl_cursor.proofs.Selected.{all-asked}
-use Rattle.fl_cursor.proofs.StartPlaces.{ascends-front}
+use Rattle.fl_cursor.proofs.StartPlaces.{ascends-front, top-least}
 use Rattle.fl_cursor.proofs.Stood.{kept-rows, standing-rows, standing-ascends}
 
 -- ---- lists
-
-drop-at : (i x : ℕ) (xs : List ℕ) → slice_get xs i ≡ Some x → drop i xs ≡ x ∷ drop (suc i) xs
-drop-at i x [] e = absurd (none-some x e)
-drop-at zero x (y ∷ []) e = let same : y ≡ x = cc in ap (λ (z : ℕ). z ∷ []) same
-drop-at zero x (y ∷ z ∷ ys) e = let same : y ≡ x = cc in ap (λ (w : ℕ). w ∷ z ∷ ys) same
-drop-at (suc i) x (y ∷ ys) e = drop-at i x ys e
-
-length-none : (xs : List ℕ) → length xs ≡ 0 → xs ≡ []
-length-none [] e = refl
-length-none (x ∷ xs) e = absurd (omega (arith, e))
-
-or-true : (a b : Bool) → b ≡ true → (a || b) ≡ true
-or-true true b e = refl
-or-true false b e = e
 
 -- ---- pages past which none is asked for
 
@@ -71,16 +53,12 @@ none-past : (asked : Cursor) (rows : List Row) → is_up_to asked.top (lowest_of
 none-past asked [] past = refl
 none-past asked (row ∷ rows) past = ap (λ b. b || list_any (is_asked (raised asked)) rows) here ∙ none-past asked rows past
   where
-    by_top : (top : Option ℕ) → is_up_to top row.key ≡ true → lowest_of asked ≤ row.key → is_up_to top (lowest_of asked) ≡ true
-    by_top None up least = up
-    by_top (Some top) up least = let le = leb-true row.key top up in le-leb (lowest_of asked) top (omega (arith, le, least))
-
     here : is_asked (raised asked) row ≡ false
     here = false_from_ne_true (is_asked (raised asked) row) (λ e.
         let parts = both (row_matches (raised asked).range asked.span row) (is_up_to asked.top row.key) e in
         let matching = both (in_range (raised asked).range row.key) (in_span asked.span (slice_get row.values 0)) parts.0 in
         let from = leb-true (lowest_of asked) row.key (both (nat_le (lowest_of asked) row.key) (nat_le row.key asked.range.high) matching.0).0 in
-        true≢false (sym (by_top asked.top parts.1 from) ∙ past))
+        true≢false (sym (top-least row.key (lowest_of asked) asked.top parts.1 from) ∙ past))
 
 pages-past : {KNOTS SLOTS : ℕ} (t : Table KNOTS SLOTS) (contents : Contents) (asked : Cursor) (n number : ℕ) → is_up_to asked.top (lowest_of asked) ≡ false → pages_asked t contents (raised asked) number n ≡ 0
 pages-past t contents asked zero number past = refl
@@ -102,7 +80,7 @@ any-asked asked (x ∷ xs) h e = by_here (matches asked.range asked.span x.kept)
     by_here : (b : Bool) → matches asked.range asked.span x.kept ≡ b → (list_any (λ (entry : Entry). matches asked.range asked.span entry.kept) xs ≡ true → list_any (is_asked asked) (map stored_row xs) ≡ true) →
         (b || list_any (λ (entry : Entry). matches asked.range asked.span entry.kept) xs) ≡ true → (is_asked asked (stored_row x) || list_any (is_asked asked) (map stored_row xs)) ≡ true
     by_here true is others e = ap (λ b. b || list_any (is_asked asked) (map stored_row xs)) (h.0 is)
-    by_here false is others e = or-true (is_asked asked (stored_row x)) (list_any (is_asked asked) (map stored_row xs)) (others e)
+    by_here false is others e = or_right (is_asked asked (stored_row x)) (list_any (is_asked asked) (map stored_row xs)) (others e)
 
 module _ {KNOTS SLOTS : ℕ} (t : Table KNOTS SLOTS) (contents : Contents) (h : IsStanding t contents) where
   module _ (asked : Cursor) (all : AllByRecursion (λ (e : Entry). matches asked.range asked.span e.kept ≡ true → is_asked asked (stored_row e) ≡ true) h.table.entries) where
@@ -117,12 +95,12 @@ module _ {KNOTS SLOTS : ℕ} (t : Table KNOTS SLOTS) (contents : Contents) (h : 
         count_by (has_match asked.range asked.span) (pages_from (rings.oldest h.table.rows + i) (drop i h.table.rows.counts) (drop (before i) h.table.entries)) ≤ pages_asked t contents asked (rings.oldest h.table.rows + i) n
     least-over zero i is =
         let none : count_by (has_match asked.range asked.span) (pages_from (rings.oldest h.table.rows + i) (drop i h.table.rows.counts) (drop (before i) h.table.entries)) ≡ 0 =
-        ap (λ (cs : List ℕ). count_by (has_match asked.range asked.span) (pages_from (rings.oldest h.table.rows + i) cs (drop (before i) h.table.entries))) (drop-past i h.table.rows.counts (omega (arith, is))) in
+        ap (λ (cs : List ℕ). count_by (has_match asked.range asked.span) (pages_from (rings.oldest h.table.rows + i) cs (drop (before i) h.table.entries))) (drop_all i h.table.rows.counts (omega (arith, is))) in
         omega (arith, none)
     least-over (suc n) i is =
         let at = slice_get-some h.table.rows.counts i (omega (arith, is)) in
-        let next : before (suc i) ≡ before i + at.0 = sum-next (λ (m : ℕ). m) h.table.rows.counts i at.0 at.1 in
-        let split = drop-at i at.0 h.table.rows.counts at.1 in
+        let next : before (suc i) ≡ before i + at.0 = sum_by-next (λ (m : ℕ). m) h.table.rows.counts i at.0 at.1 in
+        let split = drop-at h.table.rows.counts i at.0 at.1 in
         subst (λ (cs : List ℕ). count_by (has_match asked.range asked.span) (pages_from (rings.oldest h.table.rows + i) cs (drop (before i) h.table.entries)) ≤ pages_asked t contents asked (rings.oldest h.table.rows + i) (suc n)) (sym split)
         (by_count at.0 at.1 next (at.0 == 0) refl (least-over n (suc i) (omega (arith, is))))
       where
@@ -149,7 +127,7 @@ module _ {KNOTS SLOTS : ℕ} (t : Table KNOTS SLOTS) (contents : Contents) (h : 
             ap (λ (es : List Entry). count_by (has_match asked.range asked.span) (pages_from (rings.oldest h.table.rows + i + 1) (drop (suc i) h.table.rows.counts) es)) (drop-drop c (before i) h.table.entries) in
             let page : ℕ × List Entry = (rings.oldest h.table.rows + i, take c (drop (before i) h.table.entries)) in
             let one = sum_by-cons (λ x. cond (has_match asked.range asked.span x) 1 0) page (pages_from (rings.oldest h.table.rows + i + 1) (drop (suc i) h.table.rows.counts) (drop c (drop (before i) h.table.entries))) in
-            let here = one-fewer (list_any (λ (entry : Entry). matches asked.range asked.span entry.kept) (take c (drop (before i) h.table.entries))) (list_any (is_asked asked) (rows_on t contents (rings.oldest h.table.rows + i))) (λ some.
+            let here = one_fewer (list_any (λ (entry : Entry). matches asked.range asked.span entry.kept) (take c (drop (before i) h.table.entries))) (list_any (is_asked asked) (rows_on t contents (rings.oldest h.table.rows + i))) (λ some.
             ap (list_any (is_asked asked)) (kept-rows t contents h i c at)
             ∙ any-asked asked (take c (drop (before i) h.table.entries))
             (each-take (λ (e : Entry). matches asked.range asked.span e.kept ≡ true → is_asked asked (stored_row e) ≡ true) c (drop (before i) h.table.entries)
@@ -175,7 +153,7 @@ module _ {KNOTS SLOTS : ℕ} (t : Table KNOTS SLOTS) (contents : Contents) (h : 
 
   -- without an index no index page is listed
   no-firsts : has_index h.plan ≡ false → firsts h.table ≡ []
-  no-firsts none = length-none (firsts h.table) (firsts-length h.table.index_pages ∙ (h.stands.facts.index_each ∙ by_index h.table.index (h.stands.facts.has_rings.0 ∙ none)))
+  no-firsts none = nil_from_length (firsts h.table) (firsts-length h.table.index_pages ∙ (h.stands.facts.index_each ∙ by_index h.table.index (h.stands.facts.has_rings.0 ∙ none)))
     where
       by_index : (index : Option Ring) → is_some_ring index ≡ false → full_pages (counts_in index) ≡ 0
       by_index None e = refl
@@ -207,11 +185,7 @@ module _ {KNOTS SLOTS : ℕ} (t : Table KNOTS SLOTS) (contents : Contents) (h : 
 
   none-listed : (range : KeyRange) (span : Option Span) →
       ((n : ℕ) (row : Row) → oldest_in t ≤ n → n < next_in t → slice_get (rows_on t contents n) 0 ≡ Some row → is_up_to (begin range span h.table).top row.key ≡ true → row.key ≤ range.low) → pages_listed range span ≡ 0
-  none-listed range span below = ap (λ n. cond (asks_values span) n 0) (none-counted t contents h range span below) ∙ by_values (asks_values span)
-    where
-      by_values : (b : Bool) → cond {A = ℕ} b 0 0 ≡ 0
-      by_values true = refl
-      by_values false = refl
+  none-listed range span below = ap (λ n. cond (asks_values span) n 0) (none-counted t contents h range span below) ∙ zero_either (asks_values span)
 
   pub begun-least : (range : KeyRange) (span : Option Span) (index : BufferState) (place : Place) → index.holds ≡ None → IsBegun (begin range span h.table) t place →
       least_reads h.plan h.table range span ≤ least_from t contents (begin range span h.table) index place
@@ -234,7 +208,7 @@ module _ {KNOTS SLOTS : ℕ} (t : Table KNOTS SLOTS) (contents : Contents) (h : 
           let is : buffered_rows t ≡ b.row ∷ drop 1 (buffered_rows t) = drop-row (buffered_rows t) 0 b.row b.first in
           let lesser = ascends-front None (rows_over t contents (oldest_in t) (next_in t - oldest_in t)) b.row (drop 1 (buffered_rows t))
           (subst (λ (xs : List Row). Ascends None (rows_over t contents (oldest_in t) (next_in t - oldest_in t) ++ xs)) is (standing-ascends t contents h)) in
-          let below = each-weaker (λ x. x.key < b.row.key) (λ x. x.key < lowest_of (begin range span h.table)) (rows_over t contents (oldest_in t) (next_in t - oldest_in t)) (λ x lt. omega (arith, lt, b.up_to)) lesser in
+          let below = each-weaker (λ x. x.key < b.row.key) (λ x. x.key < lowest_of (begin range span h.table)) (λ x lt. omega (arith, lt, b.up_to)) (rows_over t contents (oldest_in t) (next_in t - oldest_in t)) lesser in
           let none = raised-below t contents (begin range span h.table) (next_in t - oldest_in t) (oldest_in t) below in
           let nothing = none-listed range span (λ n row low high first up. let lt = first-over t contents (λ x. x.key < range.low) n row low high first below in omega (arith, lt)) in
           omega (arith, told, le, none, nothing)

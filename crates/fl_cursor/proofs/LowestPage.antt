@@ -3,6 +3,7 @@ use Rattle.std.proofs.Common.{◌≡◌, ℕ, zero, suc, ◌+◌, ◌-◌, ◌<�
 use Rattle.std.specs.List.{slice_get, AllByRecursion, list_any}
 use Rattle.std.proofs.Math.Path.{fun_ext}
 use Rattle.std.proofs.lemmas.Bool.{leb-true, le-leb, false_from_ne_true}
+use Rattle.fl_base.proofs.Tests.{one_at_most}
 use Rattle.fl_find.specs.Index.{most_reads}
 use Rattle.fl_find.specs.Pages.{first_key, first_on}
 use Rattle.fl_find.specs.Pages as find
@@ -18,7 +19,7 @@ use Rattle.fl_model.specs.Row.{Row, stored_row}
 use Rattle.fl_model.specs.Spline.{page_at as page_with, is_pending_key, lookup_limit}
 use Rattle.fl_model.specs.Table as tables
 use Rattle.fl_model.specs.Table.{Entry, VarRing, lose, pending_entries}
-use Rattle.fl_model.proofs.Lists.{all-back}
+use Rattle.fl_model.proofs.Lists.{each-back, each-front}
 use Rattle.fl_frame.specs.Contents.{Contents, contents_of}
 use Rattle.fl_ring.specs.Place.{shape_of}
 use Rattle.fl_search.specs.Search.{IsPageOf, starts_by}
@@ -38,7 +39,6 @@ use Rattle.fl_cursor.specs.Asked.{is_asked, row_matches, lowest, lowest_of}
 use Rattle.fl_cursor.specs.Cursor.{IsStanding}
 use Rattle.fl_cursor.specs.Listed.{rows_on, rows_over}
 use Rattle.fl_cursor.specs.Reads.{begins_by, start_among, start_of, most_to_find, pages_asked, raised}
-use Rattle.fl_cursor.proofs.PassedRows.{each-front}
 use Rattle.fl_cursor.proofs.Stood.{same-rows, standing-buffered}
 
 -- an index that stands on a flash stands on each with the same pages
@@ -180,7 +180,7 @@ pub raised-below : {KNOTS SLOTS : ℕ} (t : Table KNOTS SLOTS) (contents : Conte
 raised-below t contents asked zero number below = refl
 raised-below t contents asked (suc n) number below =
     let here = none-raised asked (rows_on t contents number) (each-front (λ row. row.key < lowest_of asked) (rows_on t contents number) (rows_over t contents (number + 1) n) below) in
-    let others = raised-below t contents asked n (number + 1) (all-back (λ row. row.key < lowest_of asked) (rows_on t contents number) (rows_over t contents (number + 1) n) below) in
+    let others = raised-below t contents asked n (number + 1) (each-back (λ row. row.key < lowest_of asked) (rows_on t contents number) (rows_over t contents (number + 1) n) below) in
     ap (λ b. cond b 1 0 + pages_asked t contents (raised asked) (number + 1) n) here ∙ omega (arith, others)
 
 -- what is asked from the lowest key on is asked
@@ -198,12 +198,8 @@ any-fewer : (p q : Row → Bool) (rows : List Row) → ((row : Row) → p row �
 any-fewer p q [] implies = omega arith
 any-fewer p q (row ∷ rows) implies = by_row (p row) refl (any-fewer p q rows implies)
   where
-    at-most : (b : Bool) → cond b 1 0 ≤ 1
-    at-most true = omega arith
-    at-most false = omega arith
-
     under : (b : Bool) → cond (list_any p rows) 1 0 ≤ cond (list_any q rows) 1 0 → cond (list_any p rows) 1 0 ≤ cond (b || list_any q rows) 1 0
-    under true le = at-most (list_any p rows)
+    under true le = one_at_most (list_any p rows)
     under false le = le
 
     by_row : (b : Bool) → p row ≡ b → cond (list_any p rows) 1 0 ≤ cond (list_any q rows) 1 0 → cond (b || list_any p rows) 1 0 ≤ cond (q row || list_any q rows) 1 0

@@ -2,10 +2,8 @@
 use Rattle.std.proofs.Common.{◌≡◌, ◌*◌, ◌^◌, ◌<◌, Option, Some, None, ℕ, inl, refl, sym, ◌∙◌, ap, subst, arith}
 use Rattle.fl_base.specs.declared.types.Geometry.{Geometry}
 use Rattle.fl_flash.specs.Flash.{FlashState, pages}
-use Rattle.fl_flash.specs.declared.flash.FlashFault.TheVariants.{PowerLost, Media}
 use Rattle.fl_frame.specs.Contents.{Contents, contents_of}
 use Rattle.fl_index.specs.declared.index.BitmapIndex.{BitmapIndex}
-use Rattle.fl_page.specs.Causes.{IsCaused}
 use Rattle.fl_page.specs.declared.fault.ReadFault.{ReadFault}
 use Rattle.fl_page.specs.declared.fault.ReadFault.TheVariants.{Flash, BadPage}
 use Rattle.fl_parts.specs.Bitmaps.{LieOn}
@@ -53,12 +51,6 @@ module _ (f g : FlashState) (same : contents_of f ≡ contents_of g) where
     bitmaps = bitmaps t.bitmaps h.bitmaps;
     blobs = blobs t h.blobs;
   }
-
--- the cause of a search that failed
-pub search-caused : {KNOTS SLOTS : ℕ} (t : Table KNOTS SLOTS) (old new : FlashState) (fault : ReadFault) → LookupFails t old fault new → IsCaused old fault new
-search-caused t old new (Flash PowerLost) fails = fails.0
-search-caused t old new (Flash Media) fails = (fails.0, fails.1)
-search-caused t old new (BadPage bad) fails = tt
 
 -- .. and a bad page that it names
 pub search-bad : {KNOTS SLOTS : ℕ} (t : Table KNOTS SLOTS) (old new : FlashState) (fault : ReadFault) → LookupFails t old fault new → IfBad (MayBeBad t (contents_of old)) fault

@@ -3,11 +3,13 @@ use Rattle.std.proofs.Common.{◌≡◌, ℕ, suc, ◌+◌, ◌-◌, ◌^◌, �
 use Rattle.std.specs.Borrow.{MutBor}
 use Rattle.std.specs.List.{list_any, AllByRecursion}
 use Rattle.std.proofs.lemmas.Bool.{eq-eqb, eqb-true, false_from_ne_true}
+use Rattle.fl_base.proofs.Tests.{one_at_most}
 use Rattle.fl_flash.specs.Buffer.{BufferState}
 use Rattle.fl_mark.specs.Mark.{state_of_page}
 use Rattle.fl_mark.specs.declared.page_state.PageState.TheVariants.{Committed}
 use Rattle.fl_model.specs.Query.{is_up_to}
 use Rattle.fl_model.specs.Row.{Row}
+use Rattle.fl_model.proofs.Lists.{each-weaker}
 use Rattle.fl_frame.specs.Contents.{Contents}
 use Rattle.fl_page.specs.Page.{IsGoodPage, rows_in}
 use Rattle.fl_page.specs.declared.fault.ReadFault.{ReadFault}
@@ -26,7 +28,7 @@ use Rattle.fl_cursor.specs.declared.place.Place.{Place}
 use Rattle.fl_cursor.specs.declared.place.Place.TheVariants.{Pages, InPage, Ended}
 use Rattle.fl_cursor.proofs.Beyond.{Past, beyond-begins, none-beyond, past-beyond}
 use Rattle.fl_cursor.proofs.IndexLookups.{looking-later, unread-less, due-more, due-nothing, looked-from}
-use Rattle.fl_cursor.proofs.PassedRows.{NotLeft, passes-end, passes-same, passes-over, each-weaker}
+use Rattle.fl_cursor.proofs.PassedRows.{NotLeft, passes-end, passes-same, passes-over}
 use Rattle.fl_cursor.proofs.Stood.{standing-committed}
 use Rattle.fl_cursor.proofs.TakenRows.{moves-on}
 
@@ -169,7 +171,7 @@ module _ {KNOTS SLOTS : ℕ} (old : Cursor KNOTS SLOTS) (next : ℕ) (here_is : 
   due-here false = due-more (asked_of old).span (table_of old).bitmaps next looked_behind (index_page old)
 
   looked-later : AllByRecursion (λ n. next ≤ n) looked_behind
-  looked-later = each-weaker (λ n. next + 1 ≤ n) (λ n. next ≤ n) looked_behind (λ n le. omega (arith, le)) (looked-from (table_of old) contents (asked_of old).top (next_in (table_of old) - (next + 1)) (next + 1))
+  looked-later = each-weaker (λ n. next + 1 ≤ n) (λ n. next ≤ n) (λ n le. omega (arith, le)) looked_behind (looked-from (table_of old) contents (asked_of old).top (next_in (table_of old) - (next + 1)) (next + 1))
 
   looking-here : IsTold old contents → AreScanning (table_of old).bitmaps next (index_page old)
   looking-here told = subst (λ (p : Place). IsLooking (table_of old).bitmaps p (index_page old)) here_is told.looking
@@ -333,15 +335,11 @@ module _ {KNOTS SLOTS : ℕ} (old : Cursor KNOTS SLOTS) (next : ℕ) (here_is : 
             fewer_by_last (has_last (asked_of old).top (rows_in (layout_in (table_of old)) buf.now.bytes)) (l.looks told) most)
             (λ told lt.
             let le = least_one lt in
-            let few = at-most-one (list_any (is_asked (asked_of old)) (rows_on (table_of old) contents next)) in
+            let few = one_at_most (list_any (is_asked (asked_of old)) (rows_on (table_of old) contents next)) in
             let looked = due-here (list_any (λ row. is_up_to (asked_of old).top row.key) (rows_on (table_of old) contents next)) in
             let due = (l.looks told).least looked_behind looked-later (omega (arith, le, lt)) in
             omega (arith, least-here, le, few, looked, due))
           where
-            at-most-one : (b : Bool) → cond b 1 0 ≤ 1
-            at-most-one true = omega arith
-            at-most-one false = omega arith
-
             by_last : (b : Bool) → LooksOn (table_of old).bitmaps (asked_of old).span next (index_page old) reads (Ok Wanted) mid index.now →
                 most_from (table_of old) contents (asked_of old) (index_page old) (buffer_of old) old.place ≡ pages_by false false b + min unread_here (looks_by false false b) →
                 reads_now + cond b 0 (pages_behind + min (unread_of (asked_of old).span (table_of old).bitmaps (next + 1) index.now) looks_behind) ≤ reads + most_from (table_of old) contents (asked_of old) (index_page old) (buffer_of old) old.place

@@ -1,11 +1,12 @@
 -- The first page behind a range of keys, in the model and on a flash that stands for it.
 use Rattle.std.proofs.Common.{◌≡◌, ℕ, zero, suc, ◌+◌, ◌-◌, ◌<◌, ◌≤◌, Bool, true, false, not, ◌&&◌, cond, ◌==◌, nat_lt, Option, Some, None, option_map, List, [], ◌∷◌, length, filter, map, take, drop, refl, sym, ◌∙◌, ap, subst, arith}
 use Rattle.std.specs.List.{slice_get, sum}
-use Rattle.std.proofs.lemmas.Bool.{eqb-true, lt-ltb, ltb-true, false_from_ne_true, leb-true, true≢false}
+use Rattle.std.proofs.lemmas.Bool.{eqb-true, lt-ltb, ltb-true, false_from_ne_true, leb-true}
 use Rattle.std.proofs.lemmas.List.{drop-drop}
 use Rattle.std.proofs.lemmas.List.Sums.{sum_by-cons}
 use Rattle.std.proofs.lemmas.Option.{none-some, same_Some}
 use Rattle.fl_base.specs.declared.types.Span.{Span}
+use Rattle.fl_base.proofs.Tests.{some_from}
 use Rattle.fl_model.specs.Image.{rows_at}
 use Rattle.fl_model.specs.Limits.{is_indexed, page_behind}
 use Rattle.fl_model.specs.Query.{is_up_to}
@@ -59,10 +60,6 @@ begins-later high first x counts entries number b = record {
   above = sym (ap (λ (rows : List Entry). nat_lt high (first_key rows)) (rows-later x counts entries b.i b.c)) ∙ b.above;
 }
 
-not-zero : (x : ℕ) → (x == 0) ≡ false → 0 < x
-not-zero zero z = absurd (true≢false z)
-not-zero (suc x) z = omega arith
-
 -- the first that begins above a key is one of them
 above-at : (high first : ℕ) (counts : List ℕ) (entries : List Entry) (page : ℕ × List Entry) → slice_get (filter (is_above_key high) (pages_from first counts entries)) 0 ≡ Some page → BeginsAbove high first counts entries page.0
 above-at high first [] entries page e = absurd (none-some page e)
@@ -89,7 +86,7 @@ above-at high first (x ∷ counts) entries page e = by_zero (x == 0) refl e (λ 
     by_zero true z e others =
         let none : drop x entries ≡ entries = ap (λ n. drop n entries) (eqb-true x 0 z) ∙ drop_none entries in
         begins-later high first x counts entries page.0 (subst (λ (es : List Entry). BeginsAbove high (first + 1) counts es page.0) (sym none) (others entries e))
-    by_zero false z e others = by_test (nat_lt high (first_key (take x entries))) refl (not-zero x z) e (others (drop x entries))
+    by_zero false z e others = by_test (nat_lt high (first_key (take x entries))) refl (some_from x z) e (others (drop x entries))
 
 -- it isn't behind any of them
 record FirstAbove (high first : ℕ) (counts : List ℕ) (entries : List Entry) (most : ℕ) : Type 0 where

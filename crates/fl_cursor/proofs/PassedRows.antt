@@ -7,22 +7,11 @@ use Rattle.std.proofs.lemmas.List.{append-nil}
 use Rattle.std.proofs.lemmas.List.Elements.{filter-append}
 use Rattle.fl_model.specs.Query.{Cursor, is_above, is_up_to}
 use Rattle.fl_model.specs.Row.{Row}
+use Rattle.fl_model.proofs.Lists.{each-append, each-weaker}
 use Rattle.fl_page.specs.Steps.{Ascends}
 use Rattle.fl_cursor.specs.Asked.{is_left, is_asked, is_last, row_matches}
 use Rattle.fl_cursor.specs.Ascending.{both}
 use Rattle.fl_cursor.specs.Cursor.{Passes}
-
-pub each-append : {X : Type 0} (P : X → Type 0) (xs ys : List X) → AllByRecursion P xs → AllByRecursion P ys → AllByRecursion P (xs ++ ys)
-each-append P [] ys h k = k
-each-append P (x ∷ xs) ys h k = (h.0, each-append P xs ys h.1 k)
-
-pub each-front : {X : Type 0} (P : X → Type 0) (xs ys : List X) → AllByRecursion P (xs ++ ys) → AllByRecursion P xs
-each-front P [] ys h = tt
-each-front P (x ∷ xs) ys h = (h.0, each-front P xs ys h.1)
-
-pub each-weaker : {X : Type 0} (P Q : X → Type 0) (xs : List X) → ((x : X) → P x → Q x) → AllByRecursion P xs → AllByRecursion Q xs
-each-weaker P Q [] f h = tt
-each-weaker P Q (x ∷ xs) f h = (f x h.0, each-weaker P Q xs f h.1)
 
 -- ---- rows that aren't left
 
@@ -65,7 +54,7 @@ pub ascends-all : (key : ℕ) (rows : List Row) → Ascends (Some key) rows → 
 ascends-all key [] h = tt
 ascends-all key (row ∷ rows) h =
     let here : key < row.key = ltb-true key row.key h.0 in
-    (here, each-weaker (λ later. row.key < later.key) (λ later. key < later.key) rows (λ later lt. omega (arith, here, lt)) (ascends-all row.key rows h.1))
+    (here, each-weaker (λ later. row.key < later.key) (λ later. key < later.key) (λ later lt. omega (arith, here, lt)) rows (ascends-all row.key rows h.1))
 
 pub ascends-behind : (bound : Option ℕ) (rows : List Row) (row : Row) (later : List Row) → Ascends bound (rows ++ row ∷ later) → Above row.key later
 ascends-behind bound [] row later h = ascends-all row.key later h.1
@@ -123,7 +112,7 @@ pub passes-taken : (asked : Cursor) (all ahead : List Row) (row : Row) → Passe
 passes-taken asked all ahead row h left =
     let above = (left-parts asked row left).1 in
     passes-next (taken asked row.key) all ahead row
-    (record { before = h.before; split = h.split; passed = each-weaker (λ x. is_left asked x ≡ false) (λ x. is_left (taken asked row.key) x ≡ false) h.before (λ x none. not-left asked row.key x above none) h.passed })
+    (record { before = h.before; split = h.split; passed = each-weaker (λ x. is_left asked x ≡ false) (λ x. is_left (taken asked row.key) x ≡ false) (λ x none. not-left asked row.key x above none) h.before h.passed })
     (not-twice asked row)
 
 -- it is the first of those left, and the others stay

@@ -3,24 +3,18 @@ use Rattle.std.proofs.Common.{◌≡◌, ℕ, ◌-◌, ◌^◌, ◌<◌, ◌≤�
 use Rattle.std.specs.List.{slice_get, last_or, AllByRecursion}
 use Rattle.std.proofs.lemmas.Bool.{leb-true, le-leb, ltb-true}
 use Rattle.std.proofs.lemmas.Option.{same_Some}
+use Rattle.std.proofs.Math.Bool.{and-true}
 use Rattle.fl_base.specs.declared.types.KeyRange.{KeyRange}
 use Rattle.fl_base.specs.declared.types.Span.{Span}
 use Rattle.fl_model.specs.Facts.{FitsPlan}
 use Rattle.fl_model.specs.Query.{begin, left_of, selected, matches, in_range, in_span, is_up_to}
-use Rattle.fl_model.specs.Record.{Plan, RowLayout, greatest_key, key_limit}
+use Rattle.fl_model.specs.Record.{Plan, key_limit}
 use Rattle.fl_model.specs.Row.{stored_row}
 use Rattle.fl_model.specs.Table.{Table, Entry, last_entry}
+use Rattle.fl_model.proofs.Lists.{each-weaker, last_or-some}
 use Rattle.fl_page.specs.Steps.{Ascends}
-use Rattle.fl_schema.specs.Form.{layout_with}
-use Rattle.fl_schema.specs.Schema.{types_of}
-use Rattle.fl_schema.specs.declared.schema.KeyWidth.{KeyWidth}
-use Rattle.fl_schema.specs.declared.schema.KeyWidth.TheVariants.{Four, Eight}
-use Rattle.fl_table.specs.Memory.{IsPlanned}
-use Rattle.fl_table.specs.declared.table.Table as memory
-use Rattle.fl_table.proofs.PutAnswers.{and-true}
 use Rattle.fl_cursor.specs.Ascending.{both}
 use Rattle.fl_cursor.specs.Asked.{is_asked}
-use Rattle.fl_cursor.proofs.PassedRows.{each-weaker}
 
 -- no key is above the last one
 record UpTo (last first : Entry) (entries : List Entry) : Type 0 where
@@ -53,10 +47,6 @@ same-rows range span last (e ∷ entries) h =
     (filter (λ entry. (matches range span entry.kept && true) && nat_le entry.kept.key (min range.high last)) entries)) (same-test range span last e h.0)
     ∙ ap (λ (xs : List Entry). cond (matches range span e.kept) (e ∷ xs) xs) (same-rows range span last entries h.1)
 
-last-some : (first : Entry) (entries : List Entry) → (last : Entry) × (last_or (Some first) entries ≡ Some last)
-last-some first [] = (first, refl)
-last-some first (e ∷ entries) = last-some e entries
-
 pub begins-selected : (range : KeyRange) (span : Option Span) (table : Table) → Ascends None (map stored_row table.entries) → left_of (begin range span table) table.entries ≡ selected range span table.entries
 begins-selected range span table ascends = by_entries table.entries refl ascends
   where
@@ -70,7 +60,7 @@ begins-selected range span table ascends = by_entries table.entries refl ascends
 
     by_entries : (entries : List Entry) → table.entries ≡ entries → Ascends None (map stored_row entries) → left_of (begin range span table) table.entries ≡ selected range span table.entries
     by_entries [] are ascends = ap (left_of (begin range span table)) are ∙ sym (ap (selected range span) are)
-    by_entries (first ∷ entries) are ascends = let l = last-some first entries in with_last first l.0 entries are l.1 ascends.1
+    by_entries (first ∷ entries) are ascends = let l = last_or-some first entries in with_last first l.0 entries are l.1 ascends.1
 
 -- it asks for all that matches
 pub all-asked : (range : KeyRange) (span : Option Span) (table : Table) → Ascends None (map stored_row table.entries) →
@@ -87,11 +77,11 @@ all-asked range span table ascends = by_entries table.entries refl ascends
         AllByRecursion (λ (e : Entry). matches range span e.kept ≡ true → is_asked (begin range span table) (stored_row e) ≡ true) entries
     by_entries [] are ascends = tt
     by_entries (first ∷ entries) are ascends =
-        let l = last-some first entries in
+        let l = last_or-some first entries in
         let h = up-to-last l.0 first entries l.1 ascends.1 in
         let top : last_entry table ≡ Some l.0 = ap (last_or None) are ∙ l.1 in
-        each-weaker (λ (e : Entry). e.kept.key ≤ l.0.kept.key) (λ (e : Entry). matches range span e.kept ≡ true → is_asked (begin range span table) (stored_row e) ≡ true) (first ∷ entries)
-        (λ e le is. asks l.0 e top le is) (h.first_too, h.others)
+        each-weaker (λ (e : Entry). e.kept.key ≤ l.0.kept.key) (λ (e : Entry). matches range span e.kept ≡ true → is_asked (begin range span table) (stored_row e) ≡ true) (λ e le is. asks l.0 e top le is)
+        (first ∷ entries) (h.first_too, h.others)
 
 -- .. and so is each key up to the high one
 pub all-up : (range : KeyRange) (span : Option Span) (table : Table) → Ascends None (map stored_row table.entries) →
@@ -106,25 +96,17 @@ all-up range span table ascends = by_entries table.entries refl ascends
         AllByRecursion (λ (e : Entry). e.kept.key ≤ range.high → is_up_to (begin range span table).top e.kept.key ≡ true) entries
     by_entries [] are ascends = tt
     by_entries (first ∷ entries) are ascends =
-        let l = last-some first entries in
+        let l = last_or-some first entries in
         let h = up-to-last l.0 first entries l.1 ascends.1 in
         let top : last_entry table ≡ Some l.0 = ap (last_or None) are ∙ l.1 in
-        each-weaker (λ (e : Entry). e.kept.key ≤ l.0.kept.key) (λ (e : Entry). e.kept.key ≤ range.high → is_up_to (begin range span table).top e.kept.key ≡ true) (first ∷ entries)
-        (λ e le high. up l.0 e top le high) (h.first_too, h.others)
+        each-weaker (λ (e : Entry). e.kept.key ≤ l.0.kept.key) (λ (e : Entry). e.kept.key ≤ range.high → is_up_to (begin range span table).top e.kept.key ≡ true) (λ e le high. up l.0 e top le high)
+        (first ∷ entries) (h.first_too, h.others)
 
 -- ---- all of them
 
 -- a range without an upper end
 pub range-at : (low high key : ℕ) → key ≤ high → in_range (record { low = low; high = high }) key ≡ nat_le low key
 range-at low high key within = rw (le-leb key high within) (and-true (nat_le low key))
-
--- no key has more than 64 bits
-pub few-keys : {KNOTS SLOTS : ℕ} (t : memory.Table KNOTS SLOTS) (first : ℕ) (plan : Plan) → IsPlanned t first plan → key_limit plan < 2 ^ 64
-few-keys t first plan planned = subst (λ (layout : RowLayout). greatest_key layout < 2 ^ 64) (sym planned.layout) (by-width t.schema.key)
-  where
-    by-width : (key : KeyWidth) → greatest_key (layout_with key (types_of t.schema) t.schema.blobs) < 2 ^ 64
-    by-width Four = omega arith
-    by-width Eight = omega arith
 
 pub all-selected : (plan : Plan) (entries : List Entry) (low : ℕ) → low ≡ 0 → key_limit plan < 2 ^ 64 → AllByRecursion (FitsPlan plan) entries → selected (record { low = low; high = 2 ^ 64 - 1 }) None entries ≡ entries
 all-selected plan [] low none few fit = refl

@@ -16,6 +16,7 @@ use Rattle.fl_mark.specs.declared.page_state.PageState.TheVariants.{Committed}
 use Rattle.fl_model.specs.Query as model
 use Rattle.fl_model.specs.Query.{is_up_to}
 use Rattle.fl_model.specs.Row.{Row}
+use Rattle.fl_model.proofs.Lists.{any-drop}
 use Rattle.fl_page.specs.Page.{IsGoodPage, rows_in}
 use Rattle.fl_parts.proofs.Skipping.{looked-any}
 use Rattle.fl_table.specs.Finding.{IsPageFor}
@@ -43,13 +44,6 @@ use Rattle.fl_cursor.proofs.PassedRows.{passes-all}
 use Rattle.fl_cursor.proofs.Walks.{reached}
 
 -- ---- rows behind which none may be given
-
--- where none of some is one, none of those behind a place is, nor the one at a place
-none-behind : (test : Row → Bool) (n : ℕ) (rows : List Row) → list_any test rows ≡ false → list_any test (drop n rows) ≡ false
-none-behind test zero [] e = e
-none-behind test zero (row ∷ rows) e = e
-none-behind test (suc n) [] e = e
-none-behind test (suc n) (row ∷ rows) e = none-behind test n rows (or_parts (test row) (list_any test rows) e).1
 
 none-at : (test : Row → Bool) (rows : List Row) (j : ℕ) (row : Row) → slice_get rows j ≡ Some row → list_any test rows ≡ false → test row ≡ false
 none-at test [] j row at e = absurd (none-some row at)
@@ -200,7 +194,7 @@ module _ {KNOTS SLOTS : ℕ} (old : Cursor KNOTS SLOTS) (number row : ℕ) (here
       let other : is_last (asked_of old).top found.key ≡ false =
       subst (λ (r : Row). is_last (asked_of old).top r.key ≡ false) (same-row rows row free.j k free.row found free.at free.here at) (none-at (λ r. is_last (asked_of old).top r.key) (drop row rows) free.j free.row free.here none) in
       let later : has_last (asked_of old).top (drop (k + 1) rows) ≡ false =
-      subst (λ (xs : List Row). has_last (asked_of old).top xs ≡ false) (drop-same rows row free.j k free.at) (none-behind (λ r. is_last (asked_of old).top r.key) (suc free.j) (drop row rows) none) in
+      subst (λ (xs : List Row). has_last (asked_of old).top xs ≡ false) (drop-same rows row free.j k free.at) (any-drop (λ (r : Row). is_last (asked_of old).top r.key) (suc free.j) (drop row rows) none) in
       by_last (is_last (asked_of old).top found.key) other later (s tells fresh))
     where
       by_last : (b : Bool) → b ≡ false → has_last (asked_of old).top (drop (k + 1) rows) ≡ false →

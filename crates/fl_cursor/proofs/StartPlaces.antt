@@ -4,6 +4,7 @@ use Rattle.std.specs.List.{slice_get, AllByRecursion}
 use Rattle.std.proofs.lemmas.Bool.{leb-true, le-leb, ltb-true, false_from_ne_true, true≢false}
 use Rattle.fl_model.specs.Query.{Cursor, in_range, in_span, is_above, is_up_to}
 use Rattle.fl_model.specs.Row.{Row}
+use Rattle.fl_model.proofs.Lists.{each-weaker}
 use Rattle.fl_frame.specs.Contents.{Contents}
 use Rattle.fl_page.specs.Steps.{Ascends}
 use Rattle.fl_page.proofs.RowsFrom.{drop-row}
@@ -14,7 +15,7 @@ use Rattle.fl_cursor.specs.Ascending.{both}
 use Rattle.fl_cursor.specs.Asked.{is_left, lowest, lowest_of}
 use Rattle.fl_cursor.specs.Cursor.{Passes, IsStanding}
 use Rattle.fl_cursor.specs.Listed.{rows_over, rows_of}
-use Rattle.fl_cursor.proofs.PassedRows.{NotLeft, left-parts, passes-all, passes-over, passes-end, each-weaker}
+use Rattle.fl_cursor.proofs.PassedRows.{NotLeft, left-parts, passes-all, passes-over, passes-end}
 use Rattle.fl_cursor.proofs.Stood.{standing-ascends}
 
 -- no row below the lowest key is left
@@ -29,22 +30,22 @@ lowest-least asked row left =
     by_after None above from = from
     by_after (Some after) above from = let later = ltb-true after row.key above in omega (arith, later, from)
 
+pub top-least : (key least : ℕ) (top : Option ℕ) → is_up_to top key ≡ true → least ≤ key → is_up_to top least ≡ true
+top-least key least None up le = up
+top-least key least (Some top) up le = let most = leb-true key top up in le-leb least top (omega (arith, most, le))
+
 -- where the lowest key is past the last one no row is left
 pub none-up-to : (asked : Cursor) (rows : List Row) → is_up_to asked.top (lowest_of asked) ≡ false → NotLeft asked rows
 none-up-to asked [] past = tt
 none-up-to asked (row ∷ rows) past = (false_from_ne_true (is_left asked row) (λ left. up (left-parts asked row left).2 (lowest-least asked row left)), none-up-to asked rows past)
   where
-    by_top : (top : Option ℕ) → is_up_to top row.key ≡ true → lowest_of asked ≤ row.key → is_up_to top (lowest_of asked) ≡ true
-    by_top None up least = up
-    by_top (Some top) up least = let le = leb-true row.key top up in le-leb (lowest_of asked) top (omega (arith, le, least))
-
     up : is_up_to asked.top row.key ≡ true → lowest_of asked ≤ row.key → ⊥
-    up e least = true≢false (sym (by_top asked.top e least) ∙ past)
+    up e least = true≢false (sym (top-least row.key (lowest_of asked) asked.top e least) ∙ past)
 
 -- rows with lesser keys aren't left
 pub none-below : (asked : Cursor) (rows : List Row) → AllByRecursion (λ row. row.key < lowest_of asked) rows → NotLeft asked rows
-none-below asked rows below = each-weaker (λ row. row.key < lowest_of asked) (λ row. is_left asked row ≡ false) rows
-    (λ row lt. false_from_ne_true (is_left asked row) (λ left. let least = lowest-least asked row left in omega (arith, least, lt))) below
+none-below asked rows below = each-weaker (λ row. row.key < lowest_of asked) (λ row. is_left asked row ≡ false) (λ row lt. false_from_ne_true (is_left asked row) (λ left. let least = lowest-least asked row left in omega (arith, least, lt)))
+    rows below
 
 abbrev above-key : (above : Option ℕ) (key later : ℕ) → Type 0
 above-key None key later = Unit {0}
@@ -72,7 +73,7 @@ starts-behind asked front ahead row first le ascends =
     let is : ahead ≡ row ∷ drop 1 ahead = drop-row ahead 0 row first in
     let lesser = ascends-front None front row (drop 1 ahead) (subst (λ (xs : List Row). Ascends None (front ++ xs)) is ascends) in
     passes-over asked (front ++ ahead) front ahead (passes-all asked (front ++ ahead)) (none-below asked front
-    (each-weaker (λ x. x.key < row.key) (λ x. x.key < lowest_of asked) front (λ x lt. omega (arith, lt, le)) lesser))
+    (each-weaker (λ x. x.key < row.key) (λ x. x.key < lowest_of asked) (λ x lt. omega (arith, lt, le)) front lesser))
 
 pub starts-pending : {KNOTS SLOTS : ℕ} (t : Table KNOTS SLOTS) (contents : Contents) (asked : Cursor) (row : Row) → IsStanding t contents → slice_get (buffered_rows t) 0 ≡ Some row → row.key ≤ lowest_of asked → Passes asked (rows_of t contents) (buffered_rows t)
 starts-pending t contents asked row standing first le =

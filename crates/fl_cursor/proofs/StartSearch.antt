@@ -4,9 +4,11 @@ use Rattle.std.specs.Borrow.{MutBor}
 use Rattle.std.specs.List.{slice_get, list_any}
 use Rattle.std.proofs.lemmas.Bool.{leb-true, false_from_ne_true, false≢true}
 use Rattle.std.proofs.lemmas.Option.{none-some}
+use Rattle.fl_base.proofs.Tests.{one_at_most}
 use Rattle.fl_find.specs.Pages.{first_key}
 use Rattle.fl_flash.specs.Buffer.{BufferState}
 use Rattle.fl_model.specs.Row.{Row}
+use Rattle.fl_model.proofs.Lists.{each-weaker}
 use Rattle.fl_frame.specs.Contents.{Contents}
 use Rattle.fl_page.specs.Page.{IsGoodPage, rows_in}
 use Rattle.fl_page.specs.Steps.{Ascends}
@@ -26,7 +28,7 @@ use Rattle.fl_cursor.specs.declared.place.Place.TheVariants.{Start, Pages, InPag
 use Rattle.fl_cursor.proofs.LowestPage.{start-is, over-split, asked-split, raised-below, raised-fewer, lowest-from}
 use Rattle.fl_cursor.proofs.Beyond.{beyond-begins, beyond-last}
 use Rattle.fl_cursor.proofs.IndexLookups.{looking-later, looked-less, unread-less}
-use Rattle.fl_cursor.proofs.PassedRows.{passes-same, each-weaker}
+use Rattle.fl_cursor.proofs.PassedRows.{passes-same}
 use Rattle.fl_cursor.proofs.StartPlaces.{starts-behind, ascends-front}
 use Rattle.fl_cursor.proofs.NextPages.{turns}
 
@@ -170,11 +172,11 @@ module _ {KNOTS SLOTS : ℕ} (old : Cursor KNOTS SLOTS) (here_is : old.place ≡
         let is_first : rows_on (table_of old) contents number ++ behind ≡ b.row ∷ drop 1 (rows_on (table_of old) contents number ++ behind) =
         drop-row (rows_on (table_of old) contents number ++ behind) 0 b.row (first-front (rows_on (table_of old) contents number) behind b.row b.first) in
         let lesser = ascends-front None front b.row (drop 1 (rows_on (table_of old) contents number ++ behind)) (subst (λ (xs : List Row). Ascends None (front ++ xs)) is_first (subst (Ascends None) rows-split told.ascends)) in
-        let none = raised-below (table_of old) contents (asked_of old) (number - oldest_in (table_of old)) (oldest_in (table_of old)) (each-weaker (λ x. x.key < b.row.key) (λ x. x.key < low) front (λ x lt. omega (arith, lt, b.up_to)) lesser) in
+        let none = raised-below (table_of old) contents (asked_of old) (number - oldest_in (table_of old)) (oldest_in (table_of old)) (each-weaker (λ x. x.key < b.row.key) (λ x. x.key < low) (λ x lt. omega (arith, lt, b.up_to)) front lesser) in
         let split = ap (pages_asked (table_of old) contents (raised (asked_of old)) (oldest_in (table_of old))) parts
         ∙ (asked-split (table_of old) contents (raised (asked_of old)) (number - oldest_in (table_of old)) (suc (next_in (table_of old) - (number + 1))) (oldest_in (table_of old))
         ∙ ap (λ k. pages_asked (table_of old) contents (raised (asked_of old)) (oldest_in (table_of old)) (number - oldest_in (table_of old)) + pages_asked (table_of old) contents (raised (asked_of old)) k (suc (next_in (table_of old) - (number + 1)))) at) in
-        let few_here = at-most-one (list_any (is_asked (raised (asked_of old))) (rows_on (table_of old) contents number)) in
+        let few_here = one_at_most (list_any (is_asked (raised (asked_of old))) (rows_on (table_of old) contents number)) in
         let fewer = raised-fewer (table_of old) contents (asked_of old) (next_in (table_of old) - (number + 1)) (number + 1) (lowest-from (asked_of old)) in
         let start = ap (λ n. index_least (table_of old) contents (asked_of old) (index_page old) (n + 1)) (start-is (table_of old) contents low (Some number) (is told)) in
         omega (arith, one, least-here, split, none, few_here, fewer, start))
@@ -226,7 +228,3 @@ module _ {KNOTS SLOTS : ℕ} (old : Cursor KNOTS SLOTS) (here_is : old.place ≡
             (λ other. let more = more-looks (rows_noted (table_of old) number == 0) (is_beyond (table_of old) contents (asked_of old).span (asked_of old).top number) (is_missed (table_of old) (asked_of old).span number (rows_on (table_of old) contents number))
             (has_last (asked_of old).top (rows_in (layout_in (table_of old)) buf.now.bytes)) later last other in omega (arith, less, looks, more)) in
             omega (arith, most-here, same, enters)
-
-        at-most-one : (b : Bool) → cond b 1 0 ≤ 1
-        at-most-one true = omega arith
-        at-most-one false = omega arith

@@ -1,7 +1,7 @@
 -- The rows of a table by memory and flash are the entries of the table of the model for which it stands.
-use Rattle.std.proofs.Common.{◌≡◌, ℕ, zero, suc, ◌+◌, ◌-◌, ◌<◌, ◌≤◌, ◌⊎◌, Bool, true, false, cond, ◌==◌, Option, Some, None, List, [], ◌∷◌, ◌++◌, length, map, take, drop, take-append-drop, filter, refl, sym, ◌∙◌, ap, subst, arith, inl, inr, IsTrue}
+use Rattle.std.proofs.Common.{◌≡◌, ℕ, zero, suc, ◌+◌, ◌-◌, ◌<◌, ◌≤◌, ◌⊎◌, Bool, true, false, cond, ◌==◌, Some, None, List, [], ◌∷◌, ◌++◌, length, map, take, drop, take-append-drop, filter, refl, sym, ◌∙◌, ap, subst, arith, inl, inr, IsTrue}
 use Rattle.std.proofs.Math.Seq.{take-add}
-use Rattle.std.proofs.lemmas.Bool.{cases_lt, lt-ltb, eq-eqb, eqb-true, false_from_ne_true}
+use Rattle.std.proofs.lemmas.Bool.{cases_lt, eq-eqb, eqb-true, false_from_ne_true}
 use Rattle.std.proofs.lemmas.List.{map-append, drop-drop, take_all}
 use Rattle.std.proofs.lemmas.List.Sums.{sum_by-take-le}
 use Rattle.std.specs.List.{slice_get, sum}
@@ -15,22 +15,21 @@ use Rattle.fl_find.specs.Pages as find
 use Rattle.fl_find.specs.Pages.{rows_where}
 use Rattle.fl_model.specs.Image.{rows_at}
 use Rattle.fl_model.specs.Query as query
-use Rattle.fl_model.specs.Query.{is_above}
 use Rattle.fl_model.specs.Record.{RowLayout, row_layout}
 use Rattle.fl_model.specs.Ring as rings
 use Rattle.fl_model.specs.Row.{Row, stored_row}
 use Rattle.fl_model.specs.Table as model
 use Rattle.fl_model.specs.Table.{Entry, pending_entries}
-use Rattle.fl_model.proofs.Lists.{slice_get-some, slice_get-short, take_none}
+use Rattle.fl_model.proofs.Lists.{slice_get-some, slice_get-short, take_none, sum_by-next}
 use Rattle.fl_frame.specs.Contents.{Contents}
 use Rattle.fl_page.specs.Page.{IsGoodPage, rows_in}
 use Rattle.fl_page.specs.Steps.{Ascends}
+use Rattle.fl_page.proofs.DataPages.{entries-ascend}
 use Rattle.fl_ring.specs.Ring.{place}
 use Rattle.fl_table.specs.Look.{layout_in, oldest_in, rows_noted, buffered_rows, place_of}
 use Rattle.fl_table.specs.Memory.{next_in}
 use Rattle.fl_table.specs.declared.table.Table.{Table}
 use Rattle.fl_table.proofs.PendingKey.{buffered-stored}
-use Rattle.fl_parts.proofs.KeptPages.{sum-next}
 use Rattle.fl_parts.proofs.RowsFound.{rows-lose}
 use Rattle.fl_table.proofs.KeptRead.{place-is, shown}
 use Rattle.fl_table.proofs.MemoryTells.{next-is, oldest-is, noted-is}
@@ -165,7 +164,7 @@ module _ {KNOTS SLOTS : ℕ} (t : Table KNOTS SLOTS) (contents : Contents) (h : 
   over-rows (suc n) i is =
       let at = slice_get-some h.table.rows.counts i (omega (arith, is)) in
       let c = at.0 in
-      let next : before (suc i) ≡ before i + at.0 = sum-next (λ (m : ℕ). m) h.table.rows.counts i at.0 at.1 in
+      let next : before (suc i) ≡ before i + at.0 = sum_by-next (λ (m : ℕ). m) h.table.rows.counts i at.0 at.1 in
       let most = sum_by-take-le (λ (m : ℕ). m) h.table.rows.counts (suc i) in
       let split : many - before i ≡ at.0 + (many - before (suc i)) = omega (arith, next, most, h.stands.facts.counted) in
       let others = over-rows n (suc i) (omega (arith, is)) in
@@ -200,19 +199,9 @@ module _ {KNOTS SLOTS : ℕ} (t : Table KNOTS SLOTS) (contents : Contents) (h : 
       (ap (λ n. take (many - before 0) (drop n h.table.entries) ++ pending_entries h.table) none
       ∙ (ap (λ n. take n h.table.entries ++ drop many h.table.entries) whole ∙ take-append-drop many h.table.entries))))))
 
-entries-ascend : (last : Option ℕ) (entries : List Entry) → ((i j : ℕ) (a b : Entry) → i < j → slice_get entries i ≡ Some a → slice_get entries j ≡ Some b → a.kept.key < b.kept.key) →
-    ((b : Entry) → slice_get entries 0 ≡ Some b → is_above last b.kept.key ≡ true) → Ascends last (map stored_row entries)
-entries-ascend last [] up head = tt
-entries-ascend last (e ∷ entries) up head = (
-  head e refl,
-  entries-ascend (Some e.kept.key) entries
-      (λ i j a b lt at_i at_j. up (suc i) (suc j) a b (omega (arith, lt)) at_i at_j)
-      (λ b at. lt-ltb e.kept.key b.kept.key (up 0 1 e b (omega arith) refl at)),
-)
-
 pub standing-ascends : {KNOTS SLOTS : ℕ} (t : Table KNOTS SLOTS) (contents : Contents) (h : IsStanding t contents) → Ascends None (rows_of t contents)
 standing-ascends t contents h =
-    subst (Ascends None) (sym (standing-rows t contents h)) (entries-ascend None h.table.entries h.stands.facts.ascending (λ b at. refl))
+    subst (Ascends None) (sym (standing-rows t contents h)) (entries-ascend None h.table.entries (λ b at. refl) h.stands.facts.ascending)
 
 pub left-entries : (asked : query.Cursor) (entries : List Entry) → filter (is_left asked) (map stored_row entries) ≡ map stored_row (query.left_of asked entries)
 left-entries asked [] = refl

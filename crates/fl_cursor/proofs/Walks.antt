@@ -3,7 +3,7 @@ use Rattle.std.proofs.Common.{◌≡◌, ℕ, zero, suc, ◌+◌, ◌<◌, Bool,
 use Rattle.std.specs.List.{slice_get}
 use Rattle.fl_model.specs.Query.{Cursor}
 use Rattle.fl_model.specs.Row.{Row}
-use Rattle.fl_model.proofs.Lists.{slice_get-drop, slice_get-short, all-back}
+use Rattle.fl_model.proofs.Lists.{slice_get-drop, slice_get-short, each-back, each-front}
 use Rattle.fl_frame.specs.Contents.{Contents}
 use Rattle.fl_table.specs.declared.table.Table.{Table}
 use Rattle.fl_cursor.specs.Asked.{is_left, is_last}
@@ -13,7 +13,7 @@ use Rattle.fl_cursor.specs.Reads.{has_last, pages_asked}
 use Rattle.fl_cursor.specs.Sought.{first_left}
 use Rattle.fl_cursor.specs.declared.search.Sought.{Sought}
 use Rattle.fl_cursor.specs.declared.search.Sought.TheVariants.{Row as At, Behind, Nowhere}
-use Rattle.fl_cursor.proofs.PassedRows.{passes-all, passes-next, Above, each-front, none-asked}
+use Rattle.fl_cursor.proofs.PassedRows.{passes-all, passes-next, Above, none-asked}
 
 -- the row at place k, where the first of these has place i
 pub record Reached (asked : Cursor) (all xs rest : List Row) (i k : ℕ) : Type 0 where
@@ -97,5 +97,5 @@ pub asked-over : {KNOTS SLOTS : ℕ} (t : Table KNOTS SLOTS) (contents : Content
 asked-over t contents asked key zero number last h = refl
 asked-over t contents asked key (suc n) number last h =
     let here = none-asked asked key (rows_on t contents number) last (each-front (λ row. key < row.key) (rows_on t contents number) (rows_over t contents (number + 1) n) h) in
-    let others = asked-over t contents asked key n (number + 1) last (all-back (λ row. key < row.key) (rows_on t contents number) (rows_over t contents (number + 1) n) h) in
+    let others = asked-over t contents asked key n (number + 1) last (each-back (λ row. key < row.key) (rows_on t contents number) (rows_over t contents (number + 1) n) h) in
     ap (λ b. cond b 1 0 + pages_asked t contents asked (number + 1) n) here ∙ omega (arith, others)

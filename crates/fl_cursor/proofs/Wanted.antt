@@ -2,10 +2,11 @@
 use Rattle.std.proofs.Common.{◌≡◌, ℕ, zero, suc, ◌+◌, ◌-◌, ◌^◌, ◌<◌, ◌≤◌, Bool, true, false, not, ◌&&◌, ◌||◌, cond, ◌==◌, nat_lt, Option, Some, None, option_map, unwrap_or, List, [], ◌∷◌, length, filter, fold, map, take, drop, bit_and, bit_or, refl, sym, ◌∙◌, ap, subst, arith}
 use Rattle.std.specs.Prelude.{pos, int_le}
 use Rattle.std.specs.List.{slice_get, sum, list_any, AllByRecursion}
-use Rattle.std.proofs.lemmas.Bool.{eq-eqb, eqb-true, false_from_ne_true, true≢false}
+use Rattle.std.proofs.lemmas.Bool.{eq-eqb, eqb-true, false_from_ne_true, and_left, and_right}
 use Rattle.std.proofs.lemmas.List.{drop-drop}
 use Rattle.std.proofs.lemmas.List.Sums.{sum_by-cons}
 use Rattle.std.proofs.lemmas.Option.{none-some}
+use Rattle.std.proofs.Math.Bool.{not-not}
 use Rattle.fl_base.specs.declared.types.Span.{Span}
 use Rattle.fl_bitmap.specs.Bucket.{AreBucketsOf, bucket_in, mask_in, HasBuckets, bitmap_in}
 use Rattle.fl_bitmap.specs.declared.buckets.Buckets.{Buckets}
@@ -103,10 +104,6 @@ bitmap-same plan buckets entries same some =
 
 missed-by : (indexed : Bool) (n : ℕ) → (indexed && (n == 0)) ≡ not (not indexed || nat_lt 0 n)
 missed-by true n = sym (not-not (n == 0)) ∙ ap not (mask-meets n)
-  where
-    not-not : (b : Bool) → not (not b) ≡ b
-    not-not true = refl
-    not-not false = refl
 missed-by false n = refl
 
 module _ {KNOTS SLOTS : ℕ} (t : Table KNOTS SLOTS) (contents : Contents) (h : IsStanding t contents) where
@@ -161,15 +158,10 @@ module _ {KNOTS SLOTS : ℕ} (t : Table KNOTS SLOTS) (contents : Contents) (h : 
     beyond-same None top some = refl
     beyond-same (Some span) top some = by_index t.bitmaps refl
       where
-        and-none : (a b c : Bool) → b ≡ false → ((a && b) && c) ≡ false
-        and-none true false c e = refl
-        and-none false b c e = refl
-        and-none true true c e = absurd (true≢false e)
-
         by_index : (bitmaps : Option BitmapIndex) → t.bitmaps ≡ bitmaps → ((has_full t.bitmaps && is_indexed_in t.bitmaps number) && begins_above top (rows_on t contents number)) ≡ ((h.plan.full_index && is_indexed h.plan h.table number) && not (is_up_to top (model.first_key entries)))
         by_index None is =
             ap (λ (o : Option BitmapIndex). (has_full o && is_indexed_in o number) && begins_above top (rows_on t contents number)) is
-            ∙ sym (and-none h.plan.full_index (is_indexed h.plan h.table number) (not (is_up_to top (model.first_key entries))) (plain is))
+            ∙ sym (and_left _ (not (is_up_to top (model.first_key entries))) (and_right h.plan.full_index (is_indexed h.plan h.table number) (plain is)))
         by_index (Some index) is =
             let planned = subst (λ (o : Option BitmapIndex). ArePlanned o (h.first + h.plan.data_blocks) h.plan) is h.stands.planned.index in
             let indexed = indexed-is index h.flash (h.first + h.plan.data_blocks) h.plan h.table (index-stands t h.flash h.first h.plan h.table h.stands index is) number in

@@ -51,9 +51,6 @@ module _ (plans : List Plan) (tables : List model.Table) (name : List ℕ) (rang
   pub own : AtPlace g (λ i. true) plans now (all_ready plans m.end.tables) at entry
   own = at-place g (λ i. true) plans now (all_ready plans m.end.tables) at entry m.stand here
 
-  later : f.media.faults ≤ h.media.faults
-  later = omega (arith, goes, only.faults)
-
   rises : Rose f.media.faults g.media.faults → Rose f.media.faults h.media.faults
   rises rose = omega (arith, rose, only.faults)
 

@@ -2,6 +2,8 @@
 use Rattle.std.proofs.Common.{ℕ, inl, inr, false, IsTrue, Option, List}
 use Rattle.fl_base.specs.Causes.{Rose}
 use Rattle.fl_base.specs.declared.types.KeyRange.{KeyRange}
+use Rattle.fl_base.proofs.Appended.{appends-none}
+use Rattle.fl_base.proofs.Risen.{rose-back}
 use Rattle.fl_flash.specs.Flash.{FlashState}
 use Rattle.fl_flash.specs.Media.{MediaState}
 use Rattle.fl_image.specs.Header.{IsMade}
@@ -17,9 +19,7 @@ use Rattle.fl_store.specs.MountEnds.{IsUntouched, told_of}
 use Rattle.fl_store.specs.Store.{IsOnMedium}
 use Rattle.fl_store.specs.Tables.{TablesStand}
 use Rattle.fl_store.specs.declared.tables.Entry.{Entry}
-use Rattle.fl_store.proofs.Appends.{appends-none}
 use Rattle.fl_store.proofs.FoundTables.{by-none, nameless, not-none}
-use Rattle.fl_store.proofs.CallsInTurn.{rose-back}
 use Rattle.fl_store.proofs.MountEnds.{fails-seen}
 use Rattle.fl_store.proofs.Worked.{Worked, worked-image, worked-rose}
 use Rattle.fl_export.specs.Ends.{Exports, ExportEnds}

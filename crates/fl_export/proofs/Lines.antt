@@ -2,21 +2,16 @@
 use Rattle.std.proofs.Common.{◌≡◌, ℕ, suc, ◌+◌, Bool, true, false, Option, Some, Result, Ok, Err, List, [], ◌∷◌, ◌++◌, map, filter, refl, ◌∙◌, ap, arith, if◌then◌else◌, flat_map, slice_get}
 use Rattle.std.proofs.lemmas.Grind.{flat_map-append}
 use Rattle.std.proofs.lemmas.List.{map-append}
-use Rattle.fl_base.specs.Causes.{Appends, AppendsFront}
+use Rattle.fl_base.specs.Causes.{Appends}
+use Rattle.fl_base.proofs.Appended.{appends-append, front-behind, front-none}
 use Rattle.fl_csv.specs.Text.{entry_text}
 use Rattle.fl_csv.specs.declared.record.CsvFault.{CsvFault}
 use Rattle.fl_csv.specs.declared.record.CsvFault.TheVariants as line
 use Rattle.fl_model.specs.Record.{Plan}
 use Rattle.fl_model.specs.Table.{Table, Entry}
-use Rattle.fl_script.proofs.SinkPieces.{appends-append}
 use Rattle.fl_export.specs.Text.{said_of, AreAmong}
 use Rattle.fl_export.specs.Writing.{of_line, NoneBad, Writes}
-use Rattle.fl_store.proofs.Appends.{appends-none, front-behind}
 use Rattle.fl_export.specs.declared.fault.ExportFault.{ExportFault}
-
--- nothing was written
-pub front-none : (o : Option (List ℕ)) (text : List ℕ) → AppendsFront o o text
-front-none o text = ([], (text, refl), appends-none o)
 
 pub writes-none : (o : Option (List ℕ)) (text : List ℕ) (fault : ExportFault) → NoneBad fault → Writes text o o (Err fault)
 writes-none o text fault good = (good, front-none o text)

@@ -1,6 +1,7 @@
 -- The text of an export is that of its records, and so is read back.
 use Rattle.std.proofs.Common.{◌≡◌, ℕ, Bool, true, false, Option, None, Some, Result, Ok, List, [], ◌∷◌, length, map, if◌then◌else◌, refl, sym, ◌∙◌, ap, ◌==◌, option_map, unwrap_or, eqb-true}
 use Rattle.std.specs.List.{AllByRecursion}
+use Rattle.std.proofs.lemmas.List.{nil_from_length}
 use Rattle.fl_csv.proofs.TextBack.{text-back}
 use Rattle.fl_csv.specs.Laws.{Fits, blob_told, entry_of}
 use Rattle.fl_csv.specs.Lines.{text_puts}
@@ -13,11 +14,6 @@ use Rattle.fl_model.specs.Table.{Table, Entry}
 use Rattle.fl_export.specs.Laws.{IsWhole, ExportsReadBack}
 use Rattle.fl_export.specs.Text.{told_blob, said_of}
 
--- a list of no bytes
-empty-of : (bytes : List ℕ) → length bytes ≡ 0 → bytes ≡ []
-empty-of [] e = refl
-empty-of (b ∷ bytes) e = absurd (cc e)
-
 -- a blob that isn't gone is told by its bytes
 told-bytes : (table : Table) (entry : Entry) (bytes : List ℕ) → (blob_in table entry (Some bytes) ≡ Lost → ⊥) → told_blob (blob_in table entry (Some bytes)) ≡ csv.Bytes bytes
 told-bytes table entry bytes there = by_len (length bytes == 0) refl (unwrap_or (option_map (λ ring. page_stands ring entry.page) table.var) false) refl
@@ -27,7 +23,7 @@ told-bytes table entry bytes there = by_len (length bytes == 0) refl (unwrap_or 
     by_stands false some stands = absurd (there (rw (some, stands) refl))
 
     by_len : (none : Bool) → (length bytes == 0) ≡ none → (s : Bool) → unwrap_or (option_map (λ ring. page_stands ring entry.page) table.var) false ≡ s → told_blob (blob_in table entry (Some bytes)) ≡ csv.Bytes bytes
-    by_len true none s stands = rw none (ap csv.Bytes (sym (empty-of bytes (eqb-true (length bytes) 0 none))))
+    by_len true none s stands = rw none (ap csv.Bytes (sym (nil_from_length bytes (eqb-true (length bytes) 0 none))))
     by_len false some s stands = by_stands s some stands
 
 told-same : (blobs : Bool) (table : Table) (entry : Entry) (blob : Option (List ℕ)) → (blob_in table entry blob ≡ Lost → ⊥) → (if blobs then told_blob (blob_in table entry blob) else csv.Absent) ≡ blob_told blobs blob

@@ -1,42 +1,18 @@
 -- What a row tells of its blob, and a record's line.
-use Rattle.std.proofs.Common.{◌≡◌, ℕ, ℤ, ◌+◌, Bool, true, false, cond, Option, Some, None, IfSome, List, [], length, drop, refl, sym, ◌∙◌, ap, subst, option_map, unwrap_or, if◌then◌else◌, eq-eqb}
+use Rattle.std.proofs.Common.{◌≡◌, ℕ, ℤ, Bool, true, false, cond, Option, Some, None, List, [], length, refl, sym, ◌∙◌, ap, subst, option_map, unwrap_or, if◌then◌else◌, eq-eqb}
 use Rattle.std.proofs.lemmas.Option.{none-some, same_Some}
 use Rattle.fl_base.specs.declared.types.BlobRef.{BlobRef}
 use Rattle.fl_csv.specs.Text as csv
 use Rattle.fl_csv.specs.Text.{Blob, entry_text}
-use Rattle.fl_flash.specs.Flash.{FlashState}
 use Rattle.fl_model.specs.Query.{BlobState, Without, Lost, Stands as StandsWith, blob_in, blob_of, page_stands}
-use Rattle.fl_model.specs.Record.{Plan, RowLayout, columns_len, has_var}
+use Rattle.fl_model.specs.Record.{Plan, has_var}
 use Rattle.fl_model.specs.Ring.{Ring}
-use Rattle.fl_model.specs.Row.{Row, stored_row, reference_in}
+use Rattle.fl_model.specs.Row.{Row, stored_row}
 use Rattle.fl_model.specs.Table as model
 use Rattle.fl_model.specs.Table.{Entry}
-use Rattle.fl_schema.specs.Schema.{row_of, layout_of_row, bytes_of}
-use Rattle.fl_schema.specs.declared.row.RowRef.{RowRef}
-use Rattle.fl_table.specs.BlobAt.{has_blobs}
-use Rattle.fl_table.specs.Look.{layout_in}
-use Rattle.fl_table.specs.Standing.{Stands}
 use Rattle.fl_table.specs.declared.table.Table.{Table}
 use Rattle.fl_export.specs.Records.{field_of}
 use Rattle.fl_export.specs.Text.{told_blob, said_of}
-
--- a table has blobs where its plan has variable data
-pub blobs-as : (t : Table 64 64) (f : FlashState) (first : ℕ) (plan : Plan) (table : model.Table) → Stands t f first plan table → has_blobs t ≡ has_var plan
-blobs-as t f first plan table h = sym t.has_blobs ∙ sym (ap (λ (l : RowLayout). l.blobs) h.planned.layout)
-
--- a row names a blob only in a table that has blobs
-named-in : (blobs : Bool) (bytes : List ℕ) → IfSome (cond blobs (reference_in bytes) None) (λ at. blobs ≡ true)
-named-in false bytes = tt
-named-in true bytes = by_blob (reference_in bytes)
-  where
-    by_blob : (o : Option BlobRef) → IfSome o (λ at. true ≡ true)
-    by_blob None = tt
-    by_blob (Some at) = refl
-
-pub named-has : (t : Table 64 64) (row : RowRef) → layout_of_row row ≡ layout_in t → IfSome (row_of row).blob (λ at. has_blobs t ≡ true)
-named-has t row layout =
-    let same : (layout_of_row row).blobs ≡ has_blobs t = ap (λ (l : RowLayout). l.blobs) layout ∙ t.has_blobs in
-    subst (λ b. IfSome (row_of row).blob (λ at. b ≡ true)) same (named-in (layout_of_row row).blobs (drop ((layout_of_row row).key_bytes + columns_len (layout_of_row row).columns) (bytes_of row)))
 
 -- ---- the blob of an entry
 
@@ -96,7 +72,3 @@ line-is plan table entry row blobs key values blob key_is values_are row_is note
     ap (λ (k : ℕ). entry_text (record { key = k; values = values; blob = blob })) key_is
     ∙ (ap (λ (v : List ℤ). entry_text (record { key = row.key; values = v; blob = blob })) values_are
     ∙ ap entry_text (said-is plan table entry row blobs blob row_is noted blob_is))
-
--- a table has the columns of its plan
-pub columns-as : (t : Table 64 64) (f : FlashState) (first : ℕ) (plan : Plan) (table : model.Table) → Stands t f first plan table → length (layout_in t).columns ≡ length plan.columns
-columns-as t f first plan table h = sym (ap (λ (l : RowLayout). length l.columns) h.planned.layout)

@@ -2,6 +2,7 @@
 use Rattle.std.proofs.Common.{◌≡◌, ℕ, ◌-◌, ◌^◌, ◌<◌, true, ◌&&◌, Option, Some, None, Err, List, [], ◌∷◌, ◌++◌, map, refl, sym, ◌∙◌, ap, subst, append_assoc, append-nil, arith, slice_get}
 use Rattle.std.proofs.lemmas.Bool.{and_parts, ltb-true}
 use Rattle.fl_base.specs.Causes.{Appends, AppendsFront}
+use Rattle.fl_base.proofs.Appended.{appends-append, appends-none, front-behind, front-more}
 use Rattle.fl_csv.specs.Text.{entry_text}
 use Rattle.fl_cursor.specs.Asked.{row_matches}
 use Rattle.fl_cursor.specs.Cursor.{asked_of, mark_of, present_of, left_of, IsTold}
@@ -16,14 +17,11 @@ use Rattle.fl_frame.specs.Contents.{Contents}
 use Rattle.fl_page.specs.Steps.{Steps}
 use Rattle.fl_page.specs.declared.fault.ReadFault.{ReadFault}
 use Rattle.fl_page.specs.declared.fault.ReadFault.TheVariants.{Flash, BadPage}
-use Rattle.fl_script.proofs.SinkPieces.{appends-append}
 use Rattle.fl_export.specs.Text.{said_of, AreAmong}
 use Rattle.fl_export.specs.Writing.{NoneBad, Writes}
 use Rattle.fl_export.specs.declared.fault.ExportFault.{ExportFault}
 use Rattle.fl_export.specs.declared.fault.ExportFault.TheVariants.{Read}
-use Rattle.fl_store.proofs.Appends.{appends-none}
 use Rattle.fl_export.proofs.Lines.{lines, lines-more}
-use Rattle.fl_store.proofs.Appends.{front-behind, front-more}
 
 -- ---- each row has a greater key
 

@@ -7,7 +7,7 @@ use Rattle.std.proofs.lemmas.Option.{none-some}
 use Rattle.fl_model.specs.Row.{Row, stored_row}
 use Rattle.fl_model.specs.Table.{Entry}
 use Rattle.fl_model.specs.Query.{entry_at}
-use Rattle.fl_model.proofs.Lists.{slice_get-some, slice_get-drop, slice_get-take, slice_get-front, slice_get-short}
+use Rattle.fl_model.proofs.Lists.{slice_get-some, slice_get-drop, slice_get-take, slice_get-front, slice_get-short, slice_get-mapped}
 use Rattle.fl_search.specs.Search.{IsPageOf, starts_by}
 use Rattle.fl_search.proofs.Pages.{starts-low, starts-high, starts-void}
 use Rattle.fl_find.specs.Rows.{RowsRise, HasKey, LacksKey}
@@ -81,9 +81,7 @@ row-entry (x ∷ entries) zero row e = (x, refl, let same : stored_row x ≡ row
 row-entry (x ∷ entries) (suc i) row e = row-entry entries i row e
 
 pub entry-row : (entries : List Entry) (i : ℕ) (entry : Entry) → slice_get entries i ≡ Some entry → slice_get (map stored_row entries) i ≡ Some (stored_row entry)
-entry-row [] i entry e = absurd (none-some entry e)
-entry-row (x ∷ entries) zero entry e = let same : x ≡ entry = cc in ap (λ (y : Entry). Some (stored_row y)) same
-entry-row (x ∷ entries) (suc i) entry e = entry-row entries i entry e
+entry-row entries i entry e = slice_get-mapped stored_row entries i entry e
 
 pub rows-rise : (entries : List Entry) → Ascending entries → RowsRise (map stored_row entries)
 rows-rise entries up i j a b less e f =

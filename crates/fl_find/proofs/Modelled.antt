@@ -1,7 +1,7 @@
 -- What a lookup finds, in the words of the store's model.
 use Rattle.std.proofs.Common.{◌≡◌, ℕ, zero, suc, ◌+◌, ◌-◌, ◌*◌, ◌<◌, ◌≤◌, min, true, false, Option, Some, None, option_map, List, [], ◌∷◌, length, map, drop, refl, sym, ◌∙◌, ap, subst, arith, Result, Ok, Err, IfOk}
 use Rattle.std.specs.Prelude.{unwrap_or, IfSome, IfErr}
-use Rattle.std.specs.List.{slice_get, sum}
+use Rattle.std.specs.List.{sum}
 use Rattle.std.proofs.lemmas.Bool.{false≢true}
 use Rattle.fl_flash.specs.Flash.{FlashState}
 use Rattle.fl_model.specs.Record.{Plan, RowLayout}
@@ -21,6 +21,7 @@ use Rattle.fl_search.specs.Search.{IsPageOf, Ascends, RoseBy, RoseSome, looked_a
 use Rattle.fl_spline.specs.Points.{Rises, last_of}
 use Rattle.fl_spline.specs.Segment.{InWindow}
 use Rattle.fl_spline.proofs.Window.{in-window}
+use Rattle.fl_spline.proofs.Ends.{none-are}
 use Rattle.fl_find.specs.Pages.{first_key, first_on, bytes_at}
 use Rattle.fl_find.specs.Looking.{LookFails, HasBadPage}
 use Rattle.fl_find.specs.Standing.{HoldsPages, HasPoints, HoldsEntries}
@@ -104,21 +105,11 @@ module _ (layout : RowLayout) (ring : Ring) (f : FlashState) (plan : Plan) (tabl
       none_covered zero = refl
       none_covered (suc n) = refl
 
-      none_last : (l : List (ℕ × ℕ)) → last_of l ≡ None → l ≡ []
-      none_last [] e = refl
-      none_last (p ∷ l) e = absurd (none (slice_get-some (p ∷ l) (length (p ∷ l) - 1) (omega arith)))
-        where
-          none : (x : ℕ × ℕ) × (slice_get (p ∷ l) (length (p ∷ l) - 1) ≡ Some x) → ⊥
-          none at = differ (sym e ∙ at.1)
-            where
-              differ : ◌≡◌ {A = Option (ℕ × ℕ)} None (Some at.0) → ⊥
-              differ k = cc
-
       by_counts : (counts : List ℕ) → table.rows.counts ≡ counts → 0 < table.rows.next
       by_counts (c ∷ counts) e = let many = ap length e in omega (arith, many, fits)
       by_counts [] e =
           let none : points_of table ≡ [] = points_none (table.rows.counts) e in
-          let empty : table.points ≡ [] = none_last table.points (points.last ∙ ap last_of none) in
+          let empty : table.points ≡ [] = none-are table.points (points.last ∙ ap last_of none) in
           absurd (false≢true (sym (ap (λ (l : List (ℕ × ℕ)). is_covered (retained knots plan.error l) key) empty ∙ none_covered (0 - knots)) ∙ covered))
         where
           points_none : (counts : List ℕ) → table.rows.counts ≡ [] → points_of table ≡ []

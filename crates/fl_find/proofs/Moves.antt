@@ -32,10 +32,6 @@ holds-moved layout layout_now ring ring_now f now buf buf_now n l r e b h =
     (subst (λ (x : FlashState). Holds layout_now (shape_of ring_now) x n buf) e
     (subst (λ (x : BufferState). Holds layout_now (shape_of ring_now) now n x) b h)))
 
-pub if-some : (P Q : ℕ → Type 0) (page : Option ℕ) → ((n : ℕ) → P n → Q n) → IfSome page P → IfSome page Q
-if-some P Q None f h = tt
-if-some P Q (Some n) f h = f n h
-
 -- the page of a key begins with at most the key
 pub page-starts : (first : ℕ → Option ℕ) (oldest end key : ℕ) (page : Option ℕ) → IsPageOf first oldest end key page → IfSome page (λ n. starts_by first key n ≡ true)
 page-starts first oldest end key None is = tt

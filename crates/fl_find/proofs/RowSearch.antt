@@ -1,5 +1,5 @@
 -- Rows of a page, looked for by their keys.
-use Rattle.std.proofs.Common.{◌≡◌, ℕ, zero, suc, ◌+◌, ◌-◌, ◌*◌, ◌<◌, ◌≤◌, ⊎_elim, Bool, Some, List, length, take, drop, refl, sym, ◌∙◌, ap, arith}
+use Rattle.std.proofs.Common.{◌≡◌, ℕ, ◌+◌, ◌-◌, ◌*◌, ◌<◌, ◌≤◌, ⊎_elim, Bool, Some, List, length, take, drop, sym, ◌∙◌, ap, arith}
 use Rattle.std.specs.List.{slice_get}
 use Rattle.std.proofs.lemmas.Bool.{cases_lt}
 use Rattle.std.proofs.lemmas.List.{drop-drop}
@@ -12,6 +12,7 @@ use Rattle.fl_model.proofs.Lists.{slice_get-some, slice_get-short}
 use Rattle.fl_page.specs.Header.{page_count}
 use Rattle.fl_page.specs.Page.{rows_from, row_at, key_at}
 use Rattle.fl_page.proofs.RowBytes.{slice_get-rows_from}
+use Rattle.fl_page.proofs.RowsFrom.{length-rows_from}
 use Rattle.fl_schema.specs.Form.{layout_with}
 use Rattle.fl_schema.specs.declared.column.ColumnType.{ColumnType}
 use Rattle.fl_schema.specs.declared.schema.KeyWidth.{KeyWidth}
@@ -25,10 +26,6 @@ rows-view layout view_layout page view_page count state page_is layout_is count_
     ap (λ (s : PageState). rows_where s layout page) state
     ∙ (ap (λ (n : ℕ). rows_from n layout (drop 16 page)) (sym count_is)
     ∙ (ap (λ (l : RowLayout). rows_from count l (drop 16 page)) (sym layout_is) ∙ ap (λ (p : List ℕ). rows_from count view_layout (drop 16 p)) (sym page_is)))
-
-pub length-rows_from : (n : ℕ) (layout : RowLayout) (bytes : List ℕ) → length (rows_from n layout bytes) ≡ n
-length-rows_from zero layout bytes = refl
-length-rows_from (suc n) layout bytes = let h = length-rows_from n layout (drop (layout_len layout) bytes) in omega (arith, h)
 
 -- the key of a row is that of its bytes
 pub row-key : (key : KeyWidth) (types : List ColumnType) (blobs : Bool) (count i : ℕ) (page : List ℕ) (row : Row) → slice_get (rows_from count (layout_with key types blobs) (drop 16 page)) i ≡ Some row →

@@ -1,11 +1,15 @@
 -- What calls of a flash leave of it, one after another.
-use Rattle.std.proofs.Common.{◌≡◌, ℕ, ◌+◌, Bool, true, Option, IsTrue, take, drop, refl, sym, ◌∙◌, ap, subst, arith}
+use Rattle.std.proofs.Common.{◌≡◌, ℕ, ◌+◌, ◌*◌, ◌^◌, ◌<◌, Bool, true, Option, IsTrue, take, drop, refl, sym, ◌∙◌, ap, subst, arith}
 use Rattle.fl_base.specs.declared.types.Geometry.{Geometry}
 use Rattle.fl_flash.specs.declared.armed.Armed.{Armed}
-use Rattle.fl_flash.specs.Flash.{FlashState, CutComes, Goes, Stays, StaysWith}
+use Rattle.fl_flash.specs.Flash.{FlashState, pages, CutComes, Goes, Stays, StaysWith}
 use Rattle.fl_flash.specs.Places.{extent}
 use Rattle.fl_flash.proofs.Counts.{counted-same, counted-then}
 pub use Rattle.fl_flash.proofs.PowerOff.{goes-same}
+
+-- calls leave a flash its pages
+pub few-goes : {Power : Type 0} (old new : FlashState) → StaysWith Power old new → pages old < 2 ^ 32 → pages new < 2 ^ 32
+few-goes old new goes few = subst (λ n. n < 2 ^ 32) (sym (ap (λ n. n * new.geometry.block) goes.blocks ∙ ap (λ (x : Geometry). old.blocks * x.block) goes.geometry)) few
 
 -- what is done to a flash by calls leaves at least what stays whatever is done
 pub stays : {Power : Type 0} (old new : FlashState) → StaysWith Power old new → Stays old new

@@ -49,11 +49,14 @@ looks_more a b c x y = record {
 }
 
 -- the pages stand
+pub looks_pages : (a b : FlashState) → OnlyLooks a b → page_at b ≡ page_at a
+looks_pages a b x =
+    ap (λ (l : List ℕ). page_of l b.start b.geometry.page) x.same
+    ∙ ap (λ (k : ℕ). page_of a.media.content k b.geometry.page) x.goes.start
+    ∙ ap (λ (g : Geometry). page_of a.media.content a.start g.page) x.goes.geometry
+
 pub same_page : (a b : FlashState) (n p : ℕ) → OnlyReads a n b → page_at b p ≡ page_at a p
-same_page a b n p x =
-    ap (λ (l : List ℕ). page_of l b.start b.geometry.page p) x.same
-    ∙ ap (λ (k : ℕ). page_of a.media.content k b.geometry.page p) x.goes.start
-    ∙ ap (λ (g : Geometry). page_of a.media.content a.start g.page p) x.goes.geometry
+same_page a b n p x = ap (λ (pages : ℕ → List ℕ). pages p) (looks_pages a b (looks_by a b n x))
 
 pub told_still : (a b : FlashState) (n : ℕ) → OnlyReads a n b → IsTrue a.media.tells → IsTrue b.media.tells
 told_still a b n x told = subst IsTrue (sym x.goes.tells) told

@@ -3,6 +3,7 @@ use Rattle.std.proofs.Common.{◌≡◌, ℕ, ◌<◌, Bool, true, false, cond, 
 use Rattle.std.specs.List.{AllByRecursion, slice_split, join_with_byte}
 use Rattle.std.proofs.lemmas.List.Splits.{length-slice_split}
 use Rattle.fl_model.specs.Record.{Column, bytes_equal}
+use Rattle.fl_model.proofs.Lists.{each-append}
 use Rattle.fl_words.specs.Config.{column_named, columns_named, columns_in, cons_column}
 use Rattle.fl_words.specs.Medium.{column_name}
 use Rattle.fl_schema.specs.declared.column.ColumnType.{ColumnType}
@@ -10,7 +11,7 @@ use Rattle.fl_schema.specs.declared.column.ColumnType.TheVariants.{U8, I8, U16, 
 use Rattle.fl_schema.specs.Types.{name_of, column_of}
 use Rattle.fl_config.proofs.Texts.{column_name-is}
 use Rattle.fl_config.proofs.Names.{named}
-use Rattle.fl_image.proofs.LineWords.{IsWord, split-join, all-append}
+use Rattle.fl_image.proofs.LineWords.{IsWord, split-join}
 
 -- a column that has a name is that of a type
 pub record IsTyped (column : Column) : Type 0 where
@@ -115,7 +116,7 @@ names-word (of ∷ next ∷ types) some =
     let others = names-word (next ∷ types) (omega arith) in
     record {
       some = longer (column_name (column_of of)) (44 ∷ join_with_byte 44 (names (next ∷ types))) first.some;
-      visible = all-append (λ byte. 32 < byte) (column_name (column_of of)) (44 ∷ join_with_byte 44 (names (next ∷ types))) first.visible (omega arith, others.visible);
+      visible = each-append (λ byte. 32 < byte) (column_name (column_of of)) (44 ∷ join_with_byte 44 (names (next ∷ types))) first.visible (omega arith, others.visible);
     }
   where
     longer : (xs ys : List ℕ) → 0 < length xs → 0 < length (xs ++ ys)

@@ -8,3 +8,4 @@ pub mod AcceptedLines
 pub mod ReadBack
 pub mod Found
 pub mod Reach
+pub mod MediaLooks

@@ -4,6 +4,7 @@ use Rattle.std.specs.List.{All, AllByRecursion, slice_split, join_with_byte}
 use Rattle.std.proofs.lemmas.Bool.Decides.{nat_tests}
 use Rattle.std.proofs.lemmas.List.Elements.{All-from_recursion}
 use Rattle.std.proofs.lemmas.List.Splits.{slice_split_at, slice_split_none}
+use Rattle.fl_model.proofs.Lists.{each-append, each-weaker}
 use Rattle.fl_words.specs.Grammar.{words_in, without_return}
 use Rattle.fl_words.specs.Medium.{line_text}
 use Rattle.fl_words.specs.Parts.{line_parts}
@@ -19,14 +20,6 @@ pub record IsWord (word : List ℕ) : Type 0 where
 -- each byte is a space or comes after it
 abbrev pub IsText : List ℕ → Type 0
 IsText text = AllByRecursion (λ byte. 32 ≤ byte) text
-
-pub all-append : (P : ℕ → Type 0) (xs ys : List ℕ) → AllByRecursion P xs → AllByRecursion P ys → AllByRecursion P (xs ++ ys)
-all-append P [] ys h k = k
-all-append P (x ∷ xs) ys h k = (h.0, all-append P xs ys h.1 k)
-
-pub all-weaker : (P Q : ℕ → Type 0) → ((x : ℕ) → P x → Q x) → (xs : List ℕ) → AllByRecursion P xs → AllByRecursion Q xs
-all-weaker P Q f [] h = tt
-all-weaker P Q f (x ∷ xs) h = (f x h.0, all-weaker P Q f xs h.1)
 
 -- no byte is that one
 abbrev HasNo : ℕ → List ℕ → Type 0
@@ -53,7 +46,7 @@ no-newline byte le = grind (arith, nat_tests, le)
 
 spaceless : (words : List (List ℕ)) → AllByRecursion IsWord words → AllByRecursion (HasNo 32) words
 spaceless [] h = tt
-spaceless (word ∷ words) h = (all-weaker (λ byte. 32 < byte) (λ byte. eqb byte 32 ≡ false) no-space word h.0.visible, spaceless words h.1)
+spaceless (word ∷ words) h = (each-weaker (λ byte. 32 < byte) (λ byte. eqb byte 32 ≡ false) no-space word h.0.visible, spaceless words h.1)
 
 kept : (words : List (List ℕ)) → AllByRecursion IsWord words → filter (λ word. nat_lt 0 (length word)) words ≡ words
 kept [] h = refl
@@ -67,13 +60,13 @@ line-words words some h = ap (filter (λ word. nat_lt 0 (length word))) (split-j
 -- ---- the text of a line
 
 visible-text : (word : List ℕ) → IsVisible word → IsText word
-visible-text word h = all-weaker (λ byte. 32 < byte) (λ byte. 32 ≤ byte) (λ byte lt. omega (arith, lt)) word h
+visible-text word h = each-weaker (λ byte. 32 < byte) (λ byte. 32 ≤ byte) (λ byte lt. omega (arith, lt)) word h
 
 pub line-is_text : (words : List (List ℕ)) → AllByRecursion IsWord words → IsText (join_with_byte 32 words)
 line-is_text [] h = tt
 line-is_text (word ∷ []) h = visible-text word h.0.visible
 line-is_text (word ∷ next ∷ words) h =
-    all-append (λ byte. 32 ≤ byte) word (32 ∷ join_with_byte 32 (next ∷ words)) (visible-text word h.0.visible) (omega arith, line-is_text (next ∷ words) h.1)
+    each-append (λ byte. 32 ≤ byte) word (32 ∷ join_with_byte 32 (next ∷ words)) (visible-text word h.0.visible) (omega arith, line-is_text (next ∷ words) h.1)
 
 pub text-return : (text : List ℕ) → IsText text → without_return text ≡ text
 text-return [] h = refl
@@ -87,7 +80,7 @@ pub line-part : (words : List (List ℕ)) (rest : List ℕ) → AllByRecursion I
 line-part words rest h =
     let line = join_with_byte 32 words in
     ap line_parts (append_assoc line (10 ∷ []) rest)
-    ∙ slice_split_at (λ byte. eqb byte 10) line 10 rest (has-no 10 line (all-weaker (λ byte. 32 ≤ byte) (λ byte. eqb byte 10 ≡ false) no-newline line (line-is_text words h))) refl
+    ∙ slice_split_at (λ byte. eqb byte 10) line 10 rest (has-no 10 line (each-weaker (λ byte. 32 ≤ byte) (λ byte. eqb byte 10 ≡ false) no-newline line (line-is_text words h))) refl
 
 -- ---- spaces alone
 
@@ -99,7 +92,7 @@ spaces-text zero = tt
 spaces-text (suc n) = (omega arith, spaces-text n)
 
 pub spaces-part : (n : ℕ) → line_parts (spaces n) ≡ spaces n ∷ []
-spaces-part n = slice_split_none (λ byte. eqb byte 10) (spaces n) (has-no 10 (spaces n) (all-weaker (λ byte. 32 ≤ byte) (λ byte. eqb byte 10 ≡ false) no-newline (spaces n) (spaces-text n)))
+spaces-part n = slice_split_none (λ byte. eqb byte 10) (spaces n) (has-no 10 (spaces n) (each-weaker (λ byte. 32 ≤ byte) (λ byte. eqb byte 10 ≡ false) no-newline (spaces n) (spaces-text n)))
 
 pub spaces-words : (n : ℕ) → words_in (spaces n) ≡ []
 spaces-words zero = refl

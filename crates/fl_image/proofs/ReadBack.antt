@@ -1,13 +1,12 @@
 -- The header of a configuration is read as that configuration.
-use Rattle.std.proofs.Common.{◌≡◌, ℕ, zero, suc, ◌-◌, ◌<◌, ◌≤◌, Bool, true, false, not, ◌&&◌, ◌||◌, nat_lt, nat_le, cond, Option, Some, None, IsTrue, Ok, List, [], ◌∷◌, ◌++◌, length, map, replicate, codes, decimal, refl, sym, ◌∙◌, ap, subst, append_assoc, append-nil, length-append, arith, rules}
+use Rattle.std.proofs.Common.{◌≡◌, ℕ, ◌-◌, ◌<◌, ◌≤◌, Bool, true, false, not, ◌&&◌, ◌||◌, nat_lt, nat_le, Option, Some, None, IsTrue, Ok, List, [], ◌∷◌, ◌++◌, length, map, replicate, codes, decimal, refl, sym, ◌∙◌, ap, subst, append_assoc, append-nil, length-append, arith, rules}
 use Rattle.std.specs.Prelude.{◌==◌, is_none, is_some, unwrap_or, if◌then◌else◌}
 use Rattle.std.specs.Fmt.{signed_decimal}
 use Rattle.std.specs.Option.{option_and_then}
-use Rattle.std.specs.List.{AllByRecursion, list_all, list_any, slice_get, slice_split, flat_map, join_with_byte}
+use Rattle.std.specs.List.{AllByRecursion, list_all, list_any, slice_split, flat_map, join_with_byte}
 use Rattle.std.proofs.lemmas.Bool.{and_parts}
 use Rattle.std.proofs.lemmas.Bool.Decides.{nat_tests}
 use Rattle.std.proofs.lemmas.List.{length-replicate, length-map}
-use Rattle.std.proofs.lemmas.Option.{none-some, same_Some}
 use Rattle.fl_base.specs.declared.types.Geometry.{Geometry}
 use Rattle.fl_model.specs.Record.{Column, Plan, Config, row_len, bytes_equal}
 use Rattle.fl_words.specs.Command as command
@@ -17,11 +16,13 @@ use Rattle.fl_words.specs.Config.{ConfigFault, Lines, no_lines, configured, unle
 use Rattle.fl_words.specs.Grammar.{command_of, words_command, full_index_in, log_word_in, maybe_number, is_name, is_letter, is_digit, words_in}
 use Rattle.fl_words.specs.Medium.{column_name, device_text, table_text}
 use Rattle.fl_words.specs.Parts.{line_parts}
+use Rattle.fl_words.proofs.Tests.{test-passes}
 use Rattle.fl_schema.specs.Types.{column_of}
+use Rattle.fl_script.proofs.Numbers.{decimal-number, decimal-signed}
 use Rattle.fl_config.specs.Whole.{is_whole_of, Makes}
 use Rattle.fl_image.specs.Header.{unless_refused, after_command, after_lines, IsAccepted, IsHeaderOf}
 use Rattle.fl_image.proofs.LineWords.{IsWord, IsVisible, line-words, line-is_text, text-return, line-part, spaces-text, spaces-part, spaces-words}
-use Rattle.fl_image.proofs.Numbers.{decimal-number, decimal-signed, decimal-word, signed-word}
+use Rattle.fl_image.proofs.Numbers.{decimal-word, signed-word}
 use Rattle.fl_image.proofs.ColumnWords.{named-are_typed, columns-some, names-in, names-word}
 use Rattle.fl_image.proofs.ReadWords.{IsTableRead}
 use Rattle.fl_image.proofs.AcceptedLines.{IsTaken, AreTaken, IsDevice, Stands, accepted-stands}
@@ -214,20 +215,6 @@ faults_by geometry plans line cols log =
     ∷ (line.full_index && (line.index_blocks == 0), words.Format)
     ∷ (bad_log log, words.LogBlocks)
     ∷ (is_some log && not (line.var_blocks == 0), words.LogVar) ∷ []
-
--- where no fault applies, no test passes
-pub test-passes : (tests : List (Bool × ConfigFault)) (i : ℕ) (test : Bool × ConfigFault) → first_fault tests ≡ None → slice_get tests i ≡ Some test → test.0 ≡ false
-test-passes [] i test h e = absurd (none-some test e)
-test-passes (t ∷ tests) zero test h e = subst (λ (x : Bool × ConfigFault). x.0 ≡ false) (same_Some t test e) (by_test t.0 h)
-  where
-    by_test : (b : Bool) → cond b (Some t.1) (first_fault tests) ≡ None → b ≡ false
-    by_test true h = cc
-    by_test false h = refl
-test-passes (t ∷ tests) (suc i) test h e = test-passes tests i test (by_test t.0 h) e
-  where
-    by_test : (b : Bool) → cond b (Some t.1) (first_fault tests) ≡ None → first_fault tests ≡ None
-    by_test true h = cc
-    by_test false h = h
 
 module _ (geometry : Geometry) (before : List Plan) (line : TableLine) (read : IsTableRead line) (passes : first_fault (table_faults geometry before line) ≡ None) where
   abbrev plan : Plan

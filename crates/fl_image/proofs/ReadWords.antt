@@ -10,7 +10,7 @@ use Rattle.fl_words.specs.Command as command
 use Rattle.fl_words.specs.Command.{Command, TableLine}
 use Rattle.fl_words.specs.Grammar.{LineFault, Number, TooLong, greatest_number, number_in, number, signed, are_digits, value_of, cursor_of, is_name, op_of, columns_of, blob_word, blob_split, ◌>>=◌, form, part, each_signed, with_range, device_line, log_word_in, maybe_number, table_line}
 use Rattle.fl_words.specs.Grammar.{cut_kind, cut_line, put_parts, put_blob, put_line, name_line, key_line, bare_line, scan_line, open_line, next_line, close_line, select_line, project_line, agg_line, join_line, load_line, line_of, words_command, words_in, without_return, command_of}
-use Rattle.fl_image.proofs.Numbers.{IsSigned}
+use Rattle.fl_script.proofs.Numbers.{IsSigned}
 
 -- the words of a table line
 pub record IsTableRead (line : TableLine) : Type 0 where

@@ -1,18 +1,17 @@
 -- How the check of an image ends.
-use Rattle.std.proofs.Common.{◌≡◌, ◌⊎◌, ℕ, ◌+◌, ◌*◌, ◌^◌, ◌<◌, ◌≤◌, Bool, true, false, ◌||◌, nat_lt, IsTrue, Option, Some, None, IfSome, inl, inr, List, [], ◌∷◌, length, refl, sym, ◌∙◌, ap, subst, arith, rules}
+use Rattle.std.proofs.Common.{◌≡◌, ◌⊎◌, ℕ, ◌*◌, ◌^◌, ◌<◌, Bool, true, false, nat_lt, IsTrue, Option, Some, None, IfSome, inl, inr, List, refl, sym, subst, arith}
 use Rattle.std.specs.Prelude.{sum_by}
-use Rattle.std.proofs.lemmas.Bool.{ltb-false}
+use Rattle.std.proofs.lemmas.Bool.{ltb-false, or_parts}
 use base.Fml.{GName}
 use Rattle.fl_base.specs.declared.types.Geometry.{Geometry}
 use Rattle.fl_flash.specs.declared.flash.Work.{Work}
 use Rattle.fl_base.specs.declared.types.RingPlace.{RingPlace}
+use Rattle.fl_base.proofs.Appended.{appends-none}
 use Rattle.fl_flash.specs.Flash.{FlashState}
 use Rattle.fl_flash.specs.Media.{MediaState}
 use Rattle.fl_flash.specs.Sim.{on_medium}
-use Rattle.fl_model.specs.Image.{medium_len}
-use Rattle.fl_model.specs.Record.{Plan, Config, blocks_of}
+use Rattle.fl_model.specs.Record.{blocks_of}
 use Rattle.fl_words.specs.Config.{Lines, too_large}
-use Rattle.fl_config.specs.Whole.{is_whole, is_whole_of, Makes}
 use Rattle.fl_plan.specs.declared.table_config.TableConfig.{TableConfig}
 use Rattle.fl_image.specs.Header.{IsAccepted}
 use Rattle.fl_image.specs.Image.{IsImageOf}
@@ -23,11 +22,6 @@ use Rattle.fl_check.specs.declared.faults.TableRules.{TableRules}
 use Rattle.fl_check.specs.declared.finding.Finding.{Finding}
 use Rattle.fl_image.specs.declared.status.ToolStatus.{ToolStatus}
 use Rattle.fl_image.specs.declared.status.ToolStatus.TheVariants.{Done, InputRead, OutWrite, InputLong, NoMemory, NotImage, Device, BadImage, NoTable, BadInput, Unsound}
-use Rattle.fl_image_check.proofs.ToldTables.{told-none}
-
-or-left : (a b : Bool) → (a || b) ≡ false → a ≡ false
-or-left true b e = e
-or-left false b e = refl
 
 -- the flash on the medium has the device of the lines
 pub over-of : (lines : Lines) (geometry : Geometry) (blocks : ℕ) (origin : GName) (work : Work) (medium : MediaState) (f : FlashState) → f ≡ on_medium geometry blocks 1024 origin true None 0 work medium
@@ -35,7 +29,7 @@ pub over-of : (lines : Lines) (geometry : Geometry) (blocks : ℕ) (origin : GNa
 over-of lines geometry blocks origin work medium f is device all fits =
     let few : too_large geometry lines.plans ≡ false = subst (λ (o : Option Geometry). IfSome o (λ g. too_large g lines.plans ≡ false)) device fits in
     let pages = ltb-false 65536 (sum_by blocks_of lines.plans * geometry.block)
-    (or-left (nat_lt 65536 (sum_by blocks_of lines.plans * geometry.block)) (nat_lt 67108864 (sum_by blocks_of lines.plans * geometry.block * geometry.page)) few) in
+    (or_parts (nat_lt 65536 (sum_by blocks_of lines.plans * geometry.block)) (nat_lt 67108864 (sum_by blocks_of lines.plans * geometry.block * geometry.page)) few).0 in
     subst (λ (g : FlashState). IsOver lines g) (sym is)
     (record {
       device = device;
@@ -71,8 +65,8 @@ module _ (Ends : Lines → ToolStatus → Type 0) (bytes : List ℕ) where
   -- .. or before the first
   pub early-ends : (told : Option (List ℕ)) (status : ToolStatus) → (status ≡ NotImage) ⊎ (status ≡ Device)
       → (status ≡ NotImage → (lines : Lines) → IsAccepted lines → IsImageOf bytes lines → ⊥) → ChecksBy Ends bytes told told status
-  early-ends told status (inl is) none = subst (λ (s : ToolStatus). ChecksBy Ends bytes told told s) (sym is) (none is, told-none told)
-  early-ends told status (inr is) none = subst (λ (s : ToolStatus). ChecksBy Ends bytes told told s) (sym is) (inl (told-none told))
+  early-ends told status (inl is) none = subst (λ (s : ToolStatus). ChecksBy Ends bytes told told s) (sym is) (none is, appends-none told)
+  early-ends told status (inr is) none = subst (λ (s : ToolStatus). ChecksBy Ends bytes told told s) (sym is) (inl (appends-none told))
 
 -- a status of the tables isn't that of no image
 pub ends-known : (extent : Extent) (Finds : TableConfig → Option RingPlace → FlashState → Finding → Type 0) (Rules : TableConfig → Option RingPlace → FlashState → TableRules → Type 0) (lines : Lines) (bytes : List ℕ) (told told_now : Option (List ℕ))

@@ -1,9 +1,10 @@
 -- The lines of some findings, written one after another.
-use Rattle.std.proofs.Common.{◌≡◌, ℕ, Option, List, [], ◌∷◌, ◌++◌, Result, Ok, Err, refl, sym, ◌∙◌, ap, subst, append_assoc, append-nil}
+use Rattle.std.proofs.Common.{◌≡◌, ℕ, Option, List, [], ◌∷◌, ◌++◌, Result, refl, sym, ◌∙◌, ap, subst, append_assoc}
 use Rattle.std.specs.List.{fold}
 use Rattle.fl_base.specs.Causes.{Appends, AppendsFront}
-use Rattle.fl_script.proofs.SinkPieces.{appends-append, sent-failed}
+use Rattle.fl_base.proofs.Appended.{appends-append, front-more, front-behind}
 use Rattle.fl_script.specs.Written.{Written}
+use Rattle.fl_script.proofs.SinkPieces.{written-behind}
 use Rattle.fl_check.specs.declared.finding.Finding.{Finding}
 use Rattle.fl_image_check.specs.Report.{finding_line, findings_text}
 use Rattle.fl_image_check.specs.declared.extent.Extent.TheVariants.{AllTables}
@@ -14,10 +15,6 @@ module _ (name : List ℕ) where
   text-append (finding ∷ a) b =
       ap (λ (l : List ℕ). finding_line AllTables name finding ++ l) (text-append a b) ∙ sym (append_assoc (finding_line AllTables name finding) (findings_text name a) (findings_text name b))
 
-  -- those of one finding
-  pub text-one : (finding : Finding) → findings_text name (finding ∷ []) ≡ finding_line AllTables name finding
-  text-one finding = append-nil (finding_line AllTables name finding)
-
   module _ (before mid now : Option (List ℕ)) (a b : List Finding) where
     pub more : Appends before mid (findings_text name a) → Appends mid now (findings_text name b) → Appends before now (findings_text name (a ++ b))
     more first then =
@@ -27,14 +24,13 @@ module _ (name : List ℕ) where
     pub more-front : Appends before mid (findings_text name a) → AppendsFront mid now (findings_text name b) → AppendsFront before now (findings_text name (a ++ b))
     more-front first then =
         subst (λ (l : List ℕ). AppendsFront before now l) (sym (text-append a b))
-        (sent-failed before mid now (findings_text name a ++ findings_text name b) (findings_text name b) [] (findings_text name b)
-        (record { front = findings_text name a; parts = refl; appended = first }) then (append-nil (findings_text name b)))
+        (front-behind before mid now (findings_text name a) (findings_text name b) first then)
 
   -- .. and nothing of those behind them
   pub front-of : (before now : Option (List ℕ)) (a b : List Finding) → AppendsFront before now (findings_text name a) → AppendsFront before now (findings_text name (a ++ b))
   front-of before now a b front =
       subst (λ (l : List ℕ). AppendsFront before now l) (sym (text-append a b))
-      (front.0, (front.1.0 ++ findings_text name b, sym (append_assoc front.0 front.1.0 (findings_text name b)) ∙ ap (λ (l : List ℕ). l ++ findings_text name b) front.1.1), front.2)
+      (front-more before now (findings_text name a) (findings_text name b) front)
 
   -- .. whatever stands behind them
   pub front-of_all : (before now : Option (List ℕ)) (a : List Finding) (others : List (List Finding)) → AppendsFront before now (findings_text name a) → AppendsFront before now (findings_text name (fold ◌++◌ a others))
@@ -44,5 +40,5 @@ module _ (name : List ℕ) where
   -- the last of them
   pub then-written : {E : Type 0} (before mid now : Option (List ℕ)) (result : Result (Unit {0}) E) (a b : List Finding) → Appends before mid (findings_text name a) → Written mid now result (findings_text name b)
       → Written before now result (findings_text name (a ++ b))
-  then-written before mid now (Ok done) a b first then = more before mid now a b first then
-  then-written before mid now (Err e) a b first then = more-front before mid now a b first then
+  then-written before mid now result a b first then =
+      subst (λ (l : List ℕ). Written before now result l) (sym (text-append a b)) (written-behind before mid now (findings_text name a) (findings_text name b) result first then)

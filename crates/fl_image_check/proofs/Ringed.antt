@@ -1,15 +1,11 @@
--- What the rules of a table's rings ask for and tell, in the words of a check of an image.
+-- What the rules of a table's rings ask for, in the words of a check of an image.
 use Rattle.std.proofs.Common.{◌≡◌, ℕ, ◌+◌, ◌≤◌, Option, Some, None, IfSome, arith}
 use Rattle.fl_base.specs.declared.types.RingPlace.{RingPlace}
 use Rattle.fl_flash.specs.Flash.{FlashState}
-use Rattle.fl_flash.specs.declared.flash.FlashFault.TheVariants.{PowerLost, Media}
 use Rattle.fl_plan.specs.Plan.{blocks_in}
 use Rattle.fl_plan.specs.declared.table_config.TableConfig.{TableConfig}
-use Rattle.fl_check.specs.Looks as rings
 use Rattle.fl_check.specs.Whole.{Fits, LogFits}
-use Rattle.fl_check.specs.declared.finding.CheckFault.{CheckFault}
-use Rattle.fl_check.specs.declared.finding.CheckFault.TheVariants.{Flash, NoMemory}
-use Rattle.fl_image_check.specs.Checking.{LiesOn, LogLies, FailsBy}
+use Rattle.fl_image_check.specs.Checking.{LiesOn, LogLies}
 
 -- a ring that begins behind others
 behind : (ring : Option RingPlace) (before others blocks : ℕ) → IfSome ring (λ place. place.first_block ≡ before) → before + blocks_in ring + others ≤ blocks →
@@ -31,8 +27,3 @@ fits config f lies = record {
 pub log-fits : (config : TableConfig) (log : Option RingPlace) (f : FlashState) → LogLies config log f → LogFits log f
 log-fits config None f lies = tt
 log-fits config (Some place) f lies = (lies.0, lies.2)
-
-pub fails : (old new : FlashState) (fault : CheckFault) → rings.CheckFails old fault new → FailsBy old fault new
-fails old new (Flash PowerLost) h = h
-fails old new (Flash Media) h = h
-fails old new NoMemory h = h

@@ -5,8 +5,10 @@ use Rattle.std.specs.List.{list_all}
 use Rattle.std.proofs.lemmas.List.Sums.{sum_by-cons}
 use Rattle.std.proofs.lemmas.List.Folds.{list_all-append}
 use Rattle.std.proofs.lemmas.Bool.{false≢true}
+use Rattle.std.proofs.Math.Bool.{and-false, and-true}
 use Rattle.fl_base.specs.Causes.{Appends, AppendsFront}
 use Rattle.fl_base.specs.declared.types.RingPlace.{RingPlace}
+use Rattle.fl_base.proofs.Appended.{appends-append, appends-none, front-behind}
 use Rattle.fl_flash.specs.Flash.{FlashState}
 use Rattle.fl_flash.specs.Places.{extent}
 use Rattle.fl_model.specs.Bare.{bare}
@@ -16,7 +18,6 @@ use Rattle.fl_plan.specs.declared.table_config.TableConfig.{TableConfig}
 use Rattle.fl_plan.specs.Limits.{IsRingSize, IsWithinLimits}
 use Rattle.fl_plan.specs.Plan.{IsConfigOf, IsRingAt, blocks_in}
 use Rattle.fl_plan.specs.Refusal.{config_fault}
-use Rattle.fl_script.proofs.SinkPieces.{appends-append, sent-failed}
 use Rattle.fl_image_check.specs.Report.{FoundBy, found_text, found_sound, report_lines}
 use Rattle.fl_frame.specs.Reads.{OnlyLooks}
 use Rattle.fl_image_check.specs.Checking.{LiesOn, LogLies, IsOver, IsFound, AreFound, FindsBy, Tells, TellsNext, TellsOne, TableEnds, IsCheckStatus, TablesEndBy}
@@ -28,11 +29,6 @@ use Rattle.fl_check.specs.declared.faults.TableRules.{TableRules}
 use Rattle.fl_check.specs.declared.finding.Finding.{Finding}
 
 -- ---- a table and its place
-
-pub plan-there : (plans : List Plan) (i : ℕ) → i < length plans → (plan : Plan) × (slice_get plans i ≡ Some plan)
-plan-there [] i lt = absurd (omega (arith, lt))
-plan-there (plan ∷ plans) zero lt = (plan, refl)
-plan-there (plan ∷ plans) (suc i) lt = plan-there plans i (omega (arith, lt))
 
 sum-within : (plans : List Plan) (i : ℕ) (plan : Plan) → slice_get plans i ≡ Some plan → sum_by blocks_of (take i plans) + blocks_of plan ≤ sum_by blocks_of plans
 sum-within [] i plan h = let none : None ≡ Some plan = h in cc
@@ -115,13 +111,6 @@ report-push extent (first ∷ plans) (one ∷ findings) plan found h =
     ap (λ l. found_text extent first.name one ++ l) (report-push extent plans findings plan found h)
     ∙ sym (append_assoc (found_text extent first.name one) (report_lines extent plans findings) (found_text extent plan.name found))
 
-nothing-told : (told : Option (List ℕ)) → Appends told told []
-nothing-told None = tt
-nothing-told (Some bytes) = ap (λ l. Some l) (sym (append-nil bytes))
-
-pub told-none : (told : Option (List ℕ)) → Appends told told []
-told-none told = nothing-told told
-
 found-push : (Found : Type 0) (Finds : TableConfig → Option RingPlace → FlashState → Found → Type 0) (lines : Lines) (bytes : List ℕ) (i : ℕ) (findings : List Found) (found : Found) →
     AreFound Finds lines bytes i findings → IsFound Finds lines bytes (i + length findings) found → AreFound Finds lines bytes i (findings ++ found ∷ [])
 found-push Found Finds lines bytes i [] found h k = let same : i + length {A = Found} [] ≡ i = omega arith in (subst (λ n. IsFound Finds lines bytes n found) same k, tt)
@@ -139,17 +128,9 @@ all-push Found sound findings found all is h k =
     and-last true false = refl
     and-last false b = refl
 
-and-true : (b : Bool) → (b && true) ≡ b
-and-true true = refl
-and-true false = refl
-
-and-false : (b : Bool) → (b && false) ≡ false
-and-false true = refl
-and-false false = refl
-
 pub sound-none : (extent : Extent) (Finds : TableConfig → Option RingPlace → FlashState → FoundBy extent → Type 0) (lines : Lines) (bytes : List ℕ) (told : Option (List ℕ)) → Tells extent Finds lines bytes told told 0 true
 sound-none extent Finds lines bytes told =
-    record { findings = []; count = refl; are = tt; sound = refl; text = subst (λ (l : List ℕ). Appends told told l) (sym (report-none extent lines.plans)) (nothing-told told) }
+    record { findings = []; count = refl; are = tt; sound = refl; text = subst (λ (l : List ℕ). Appends told told l) (sym (report-none extent lines.plans)) (appends-none told) }
 
 -- one more finding, and its lines
 module _ (extent : Extent) (Finds : TableConfig → Option RingPlace → FlashState → FoundBy extent → Type 0) (lines : Lines) (bytes : List ℕ) (before mid now : Option (List ℕ)) (n : ℕ) (all : Bool) (s : Tells extent Finds lines bytes before mid n all) where
@@ -190,7 +171,7 @@ module _ (extent : Extent) (Finds : TableConfig → Option RingPlace → FlashSt
         are = are-next one.found one.is;
         sound = s.sound;
         text = subst (λ (l : List ℕ). AppendsFront before now l) (sym (text-next one.found one.is))
-            (sent-failed before mid now (so_far ++ line) line [] line (record { front = so_far; parts = refl; appended = s.text }) front (append-nil line));
+            (front-behind before mid now so_far line s.text front);
       }
 
   pub sound-next : TellsOne extent Finds lines bytes n true (λ text. Appends mid now text) → Tells extent Finds lines bytes before now (n + 1) all

@@ -1,6 +1,7 @@
 -- The lines of an import, one after another.
 use Rattle.std.proofs.Common.{◌≡◌, ℕ, ◌+◌, ◌<◌, ◌≤◌, Bool, true, false, Option, Result, Ok, Err, List, [], ◌∷◌, ◌++◌, length, drop, refl, sym, ◌∙◌, ap, subst, append-nil, length-append, arith, if◌then◌else◌}
 use Rattle.fl_base.specs.Causes.{Appends, AppendsFront}
+use Rattle.fl_base.proofs.Appended.{appends-append, appends-none}
 use Rattle.fl_csv.specs.declared.record.GoneBlobs.{GoneBlobs}
 use Rattle.fl_csv.specs.declared.record.LineForm.{LineForm}
 use Rattle.fl_csv.specs.declared.record.CsvRefusal.{CsvRefusal}
@@ -13,7 +14,6 @@ use Rattle.fl_lines.specs.Stream.{LinesState, Advances}
 use Rattle.fl_lines.specs.Taken.{TakesFew}
 use Rattle.fl_model.specs.Record.{Record, Plan, has_var}
 use Rattle.fl_model.specs.Table as model
-use Rattle.fl_script.proofs.SinkPieces.{appends-append}
 use Rattle.fl_rlc.specs.declared.table.LoggedTable.{LoggedTable}
 use Rattle.fl_import.specs.Ends.{Reports, puts_of, table_after, told_of_lines}
 use Rattle.fl_import.specs.Counting.{after_end, counts_of, end_of, gone_count, put_end}
@@ -26,7 +26,6 @@ use Rattle.fl_store.specs.Works.{Works}
 use Rattle.fl_import.specs.Taking.{Ended, IsOfNames, NextOf, NextLine, TakesSoFar, TakesThese}
 use Rattle.fl_import.specs.declared.line_end.LineEnd.{LineEnd}
 use Rattle.fl_import.specs.declared.line_end.LineEnd.TheVariants.{Refused}
-use Rattle.fl_store.proofs.Appends.{appends-none}
 use Rattle.fl_import.proofs.NextPut.{after-more, told-more, count-more, gone-more, means-behind, means-length}
 use Rattle.fl_import.proofs.Taken.{Shows, taken-next, shows-next, stops-done, stops-next}
 

@@ -1,6 +1,7 @@
 -- How an import ends over a flash that stands for tables.
 use Rattle.std.proofs.Common.{◌≡◌, ℕ, inl, inr, true, false, IsTrue, Option, None, Some, List, length, refl, sym, ◌∙◌, ap, subst, slice_get}
 use Rattle.fl_base.specs.Causes.{Rose}
+use Rattle.fl_base.proofs.Risen.{rose-front}
 use Rattle.fl_store.specs.Store.{at_rest}
 use Rattle.fl_store.specs.Named.{has_name}
 use Rattle.fl_store.specs.Status.{mount_status}
@@ -23,7 +24,6 @@ use Rattle.fl_rlc.specs.declared.table.LoggedTable.{LoggedTable}
 use Rattle.fl_parts.specs.declared.mount_fault.MountFault.{MountFault}
 use Rattle.fl_store.specs.Tables.{first_of, entries_with, IsNamed, TablesStand, TablesMounted, MountBreaks}
 use Rattle.fl_store.specs.declared.tables.Entry.{Entry}
-use Rattle.fl_store.proofs.CallsInTurn.{rose-front}
 use Rattle.fl_store.proofs.TablesChanged.{AtPlace}
 use Rattle.fl_import.specs.Ends.{Imports, Leaves, table_after}
 use Rattle.fl_import.specs.Images.{EndsOn, told_of}

@@ -1,7 +1,9 @@
 -- How an import of an image ends, from how one over its flash does.
-use Rattle.std.proofs.Common.{◌≡◌, ℕ, ◌<◌, ◌⊎◌, inl, inr, Bool, false, IsTrue, IfSome, Option, Some, None, List, length, refl, sym, ◌∙◌, ap, subst, arith, find, slice_get}
+use Rattle.std.proofs.Common.{◌≡◌, ℕ, ◌<◌, ◌⊎◌, inl, inr, Bool, false, IsTrue, IfSome, Option, Some, None, List, length, refl, sym, ◌∙◌, subst, arith, find, slice_get}
 use Rattle.std.proofs.lemmas.Option.{slice_get_within, none-some}
 use Rattle.fl_base.specs.Causes.{Rose}
+use Rattle.fl_base.proofs.Appended.{appends-none}
+use Rattle.fl_base.proofs.Risen.{rose-back}
 use Rattle.fl_csv.specs.declared.record.GoneBlobs.{GoneBlobs}
 use Rattle.fl_csv.specs.declared.record.LineForm.{LineForm}
 use Rattle.fl_flash.specs.Flash.{FlashState}
@@ -13,7 +15,7 @@ use Rattle.fl_image.specs.Status.{is_done}
 use Rattle.fl_image.specs.declared.status.ToolStatus.{ToolStatus}
 use Rattle.fl_image.specs.declared.status.ToolStatus.TheVariants.{Done, InputRead, OutWrite, InputLong, NoMemory, NotImage, Device, BadImage, NoTable, BadInput, Unsound}
 use Rattle.fl_model.specs.Bare.{bare}
-use Rattle.fl_model.specs.Record.{Plan, Config, RowLayout, bytes_equal, has_var}
+use Rattle.fl_model.specs.Record.{Plan, Config, bytes_equal, has_var}
 use Rattle.fl_model.specs.Table.{Table}
 use Rattle.fl_model.proofs.Lists.{slice_get-some}
 use Rattle.fl_table.specs.BlobAt.{has_blobs}
@@ -22,6 +24,7 @@ use Rattle.fl_table.specs.Look.{layout_in}
 use Rattle.fl_table.specs.Memory.{IsPlanned}
 use Rattle.fl_parts.specs.declared.mount_fault.MountFault.{MountFault}
 use Rattle.fl_table.specs.declared.table.Table.{Table as CodeTable}
+use Rattle.fl_table.proofs.PlannedLayout.{blobs-as, columns-as}
 use Rattle.fl_words.specs.Config.{Lines}
 use Rattle.fl_words.specs.Medium.{IsImage}
 use Rattle.fl_store.specs.FoundTable.{FindsNone}
@@ -29,9 +32,7 @@ use Rattle.fl_store.specs.Status.{mount_status}
 use Rattle.fl_store.specs.Store.{IsOnMedium}
 use Rattle.fl_store.specs.Tables.{AreNewTables, IsNamed, TablesStand}
 use Rattle.fl_store.specs.declared.tables.Entry.{Entry}
-use Rattle.fl_store.proofs.Appends.{appends-none}
 use Rattle.fl_store.proofs.FoundTables.{by-none, nameless, not-none}
-use Rattle.fl_store.proofs.CallsInTurn.{rose-back}
 use Rattle.fl_store.proofs.TableByName.{find-first, first-named, new-named}
 use Rattle.fl_store.proofs.MountEnds.{fails-seen}
 use Rattle.fl_store.proofs.MountStatuses.{by-mount, mount-place, mount-rose}
@@ -186,6 +187,6 @@ of-mounted status of = by-table IsOfMounted status of tt tt tt tt tt tt (λ n. t
 -- the form of the lines of a table that was made for a plan, beside its log
 pub formed : (t : CodeTable 64 64) (first : ℕ) (plan : Plan) (columns : ℕ) (blobs : Bool) → IsPlanned t first (bare plan) → columns ≡ length (layout_in t).columns → blobs ≡ has_blobs t → IsFormOf (record { columns = columns; blobs = blobs }) plan
 formed t first plan columns blobs planned many has = record {
-  columns = many ∙ ap (λ (l : RowLayout). length l.columns) (sym planned.layout);
-  blobs = has ∙ (sym t.has_blobs ∙ sym (ap (λ (l : RowLayout). l.blobs) planned.layout));
+  columns = many ∙ columns-as t first (bare plan) planned;
+  blobs = has ∙ blobs-as t first (bare plan) planned;
 }

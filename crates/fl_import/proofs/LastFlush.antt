@@ -2,6 +2,7 @@
 use Rattle.std.proofs.Common.{◌≡◌, ℕ, ◌-◌, ◌≤◌, ◌==◌, ◌&&◌, inl, inr, Bool, true, false, nat_lt, if◌then◌else◌, IfOk, IfErr, Option, Result, Ok, Err, List, [], ◌∷◌, ◌++◌, length, length-take, refl, sym, ◌∙◌, ap, subst, arith}
 use Rattle.std.proofs.lemmas.Bool.{eqb-true, true≢false, false≢true}
 use Rattle.fl_base.specs.Causes.{Rose, Appends, AppendsFront}
+use Rattle.fl_base.proofs.Risen.{rose-back}
 use Rattle.fl_csv.specs.declared.record.GoneBlobs.{GoneBlobs}
 use Rattle.fl_import.specs.declared.job_end.LinesTaken.{LinesTaken}
 use Rattle.fl_store.proofs.Risen.{has_risen}
@@ -24,7 +25,6 @@ use Rattle.fl_rlc.specs.Outcomes.{FlushEnds}
 use Rattle.fl_rlc.specs.declared.table.LoggedTable.{LoggedTable}
 use Rattle.fl_table.specs.declared.faults.FlushFault.{FlushFault}
 use Rattle.fl_table.specs.declared.faults.FlushFault.TheVariants as flush
-use Rattle.fl_store.proofs.CallsInTurn.{rose-back}
 use Rattle.fl_store.proofs.TablesChanged.{off-rests}
 use Rattle.fl_import.specs.Counting.{count_text}
 use Rattle.fl_import.specs.Ends.{Leaves, Flushes, table_after}

@@ -3,10 +3,10 @@ use Rattle.std.proofs.Common.{None, ◌≡◌, ℕ, ◌⊎◌, inl, inr, Bool, f
 use Rattle.std.proofs.lemmas.Option.{none-some}
 use Rattle.fl_base.specs.Causes.{Rose, Appends, AppendsFront}
 use Rattle.fl_base.specs.declared.stream.SinkFailed.{SinkFailed}
+use Rattle.fl_base.proofs.Appended.{appends-none, front-more}
 use Rattle.fl_csv.specs.declared.record.GoneBlobs.{GoneBlobs}
 use Rattle.fl_csv.specs.declared.record.CsvRefusal.{CsvRefusal}
 use Rattle.fl_csv.specs.declared.record.CsvRefusal.TheVariants as unread
-use Rattle.fl_store.proofs.Appends.{appends-none, front-behind, front-more}
 use Rattle.fl_frame.proofs.WatchedInTurn.{never-lost}
 use Rattle.fl_store.proofs.Risen.{has_risen}
 use Rattle.fl_flash.specs.Flash.{FlashState, Goes}
@@ -23,7 +23,7 @@ use Rattle.fl_model.specs.Puts.{TablePuts}
 use Rattle.fl_model.specs.Work as work
 use Rattle.fl_model.specs.Work.{PartProgress}
 use Rattle.fl_script.specs.Written.{Written}
-use Rattle.fl_script.proofs.SinkPieces.{appends-append, written-err}
+use Rattle.fl_script.proofs.SinkPieces.{written-err, written-behind}
 use Rattle.fl_rlc.specs.Outcomes.{PutEnds, Breaks}
 use Rattle.fl_rlc.specs.Refusal.{RefusedSame}
 use Rattle.fl_table.specs.Causes.{PutCausedBy}
@@ -64,8 +64,7 @@ pub told-front : {E : Type 0} (a b : Option (List ℕ)) (result : Result (Unit {
 told-front a b result first then written err is front = written-err a b result (first ++ then) err (front-more a b first then (subst (λ l. AppendsFront a b l) is front))
 
 pub told-behind : {E : Type 0} (a b c : Option (List ℕ)) (result : Result (Unit {0}) E) (first then written reply : List ℕ) → written ≡ first → Appends a b written → reply ≡ then → Written b c result reply → Written a c result (first ++ then)
-told-behind a b c (Ok done) first then written reply is wrote same more = appends-append a b c first then (subst (λ l. Appends a b l) is wrote) (subst (λ l. Appends b c l) same more)
-told-behind a b c (Err failed) first then written reply is wrote same more = front-behind a b c first then (subst (λ l. Appends a b l) is wrote) (subst (λ l. AppendsFront b c l) same more)
+told-behind a b c result first then written reply is wrote same more = written-behind a b c first then result (subst (λ l. Appends a b l) is wrote) (subst (λ l. Written b c result l) same more)
 
 -- ---- a line that is refused
 

@@ -1,6 +1,6 @@
 -- Lines of an input that are taken one after another.
 use Rattle.std.proofs.Common.{◌≡◌, ℕ, ◌+◌, ◌^◌, ◌<◌, ◌≤◌, ◌⊎◌, inl, inr, Bool, true, false, Option, Some, Result, Ok, Err, List, [], ◌∷◌, ◌++◌, length, refl, sym, ◌∙◌, ap, subst, append_assoc, append-nil, arith, lt-ltb}
-use Rattle.std.specs.List.{AllByRecursion}
+use Rattle.fl_model.proofs.Lists.{each-push}
 use Rattle.fl_csv.specs.Lines.{IsHeader}
 use Rattle.fl_image.specs.declared.status.ToolStatus.{ToolStatus}
 use Rattle.fl_image.specs.declared.status.ToolStatus.TheVariants.{Done, InputRead, InputLong, NoMemory, BadInput}
@@ -17,10 +17,6 @@ use Rattle.fl_import.specs.Taking.{NextOf, TakesSoFar, TakesThese}
 
 abbrev IsShort : List ℕ → Type 0
 IsShort line = length line ≤ 4096
-
-short-more : (taken : List (List ℕ)) (line : List ℕ) → AllByRecursion IsShort taken → IsShort line → AllByRecursion IsShort (taken ++ line ∷ [])
-short-more [] line h short = (short, tt)
-short-more (first ∷ taken) line h short = (h.0, short-more taken line h.1 short)
 
 -- the line of the names is the first one
 headed-more : (columns : ℕ) (blobs : Bool) (taken : List (List ℕ)) (line : List ℕ) → IsHeaded columns blobs taken → ((taken ≡ []) → IsHeader columns blobs (without_return line)) → IsHeaded columns blobs (taken ++ line ∷ [])
@@ -90,7 +86,7 @@ module _ (columns : ℕ) (blobs : Bool) (text : List ℕ) (taken : List (List �
     where
       by-line : (l : List ℕ) → left_now ≡ Some l →
           Given most_bytes text (taken ++ new.line ∷ []) new.closed new.most (new.ahead ++ l) ⊎ (IsTooLong most_bytes text taken × (4096 < length new.line)) → TakesSoFar columns blobs text (taken ++ new.line ∷ []) new left_now
-      by-line l is (inl g) = record { rest = l; rest_is = is; given = g; short = short-more taken new.line h.short short; headed = headed-more columns blobs taken new.line h.headed names }
+      by-line l is (inl g) = record { rest = l; rest_is = is; given = g; short = each-push IsShort taken new.line h.short short; headed = headed-more columns blobs taken new.line h.headed names }
       by-line l is (inr w) = absurd (omega (arith, w.1, short))
 
   -- there is none

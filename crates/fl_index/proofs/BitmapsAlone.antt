@@ -40,10 +40,6 @@ read-alone (Ok found) P h = h
 read-alone (Err (BadPage bad)) P h = h
 read-alone (Err (Flash fault)) P h = h
 
-pub some-mapped : (P Q : ℕ → Type 0) (o : Option ℕ) → ((n : ℕ) → P n → Q n) → IfSome o P → IfSome o Q
-some-mapped P Q None f h = h
-some-mapped P Q (Some n) f h = f n h
-
 -- the bitmap of an entry that is shown
 pub shows-alone : (plan : Plan) (table : Table) (number : ℕ) (result : Result (Option Found) ReadFault) → ShowsEntry plan table number result → ShowsBitmap plan table number (bitmaps_of result)
 shows-alone plan table number (Ok None) h = (h.0, λ n rows e c some. tt)

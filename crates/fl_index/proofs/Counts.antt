@@ -2,13 +2,10 @@
 use Rattle.std.proofs.Common.{◌≡◌, ℕ, zero, suc, ◌+◌, ◌<◌, ◌≤◌, Bool, true, false, cond, refl, ◌∙◌, ap, arith}
 use Rattle.std.proofs.lemmas.List.Sums.{sum_by-cons}
 use Rattle.std.specs.List.{range_with_len, count_by}
+use Rattle.fl_base.proofs.Tests.{one_fewer}
 
 pub count-cons : (p : ℕ → Bool) (n from : ℕ) → count_by p (range_with_len from (suc n)) ≡ cond (p from) 1 0 + count_by p (range_with_len (from + 1) n)
 count-cons p n from = sum_by-cons (λ x. cond (p x) 1 0) from (range_with_len (from + 1) n)
-
-pub at-most-one : (b : Bool) → cond b 1 0 ≤ 1
-at-most-one true = omega arith
-at-most-one false = omega arith
 
 pub count-split : (p : ℕ → Bool) (k n from : ℕ) → count_by p (range_with_len from (k + n)) ≡ count_by p (range_with_len from k) + count_by p (range_with_len (from + k) n)
 count-split p zero n from =
@@ -30,13 +27,9 @@ count-none p (suc n) from h =
     let others = count-none p n (from + 1) (λ k low high. h k (omega (arith, low)) (omega (arith, high))) in
     omega (arith, count-cons p n from, here, others)
 
-pub one-fewer : (a b : Bool) → (a ≡ true → b ≡ true) → cond a 1 0 ≤ cond b 1 0
-one-fewer true b f = let e : cond {A = ℕ} b 1 0 ≡ 1 = ap (λ x. cond {A = ℕ} x 1 0) (f refl) in omega (arith, e)
-one-fewer false b f = omega arith
-
 pub count-fewer : (p q : ℕ → Bool) (n from : ℕ) → ((k : ℕ) → from ≤ k → k < from + n → p k ≡ true → q k ≡ true) → count_by p (range_with_len from n) ≤ count_by q (range_with_len from n)
 count-fewer p q zero from h = omega arith
 count-fewer p q (suc n) from h =
-    let here = one-fewer (p from) (q from) (h from (omega arith) (omega arith)) in
+    let here = one_fewer (p from) (q from) (h from (omega arith) (omega arith)) in
     let others = count-fewer p q n (from + 1) (λ k low high. h k (omega (arith, low)) (omega (arith, high))) in
     omega (arith, count-cons p n from, count-cons q n from, here, others)

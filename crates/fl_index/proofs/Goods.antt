@@ -20,12 +20,13 @@ use Rattle.fl_ring.specs.declared.ring.Ring.{Ring}
 use Rattle.fl_ring.proofs.Exists.{lies_exists}
 use Rattle.fl_ring.proofs.Lengths.{page_length}
 use Rattle.std.proofs.Math.Nat.{mod-lt}
+use Rattle.fl_model.proofs.FullIndex.{first-at}
 use Rattle.fl_ring.specs.Ring.{place as place_at}
 use Rattle.fl_index.specs.declared.index.BitmapIndex.{BitmapIndex}
 use Rattle.fl_index.specs.Memory.{next_in, oldest_in, per_page, place_in, LiesOn}
 use Rattle.fl_index.specs.Page.{IsGoodPage}
 use Rattle.fl_index.specs.Standing.{Stands, bytes_in}
-use Rattle.fl_index.proofs.Lists.{below-end, first-at}
+use Rattle.fl_index.proofs.Lists.{below-end}
 use Rattle.fl_index.proofs.Lookups.{place-same}
 use Rattle.fl_index.proofs.SealEnds.{planned-ring}
 use Rattle.fl_index.proofs.LookupsOfTable.{KeptPage, kept-page, index-page, X_is}

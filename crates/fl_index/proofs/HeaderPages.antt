@@ -1,17 +1,18 @@
 -- The headers of the pages of an index: the newest one, and one first data page more of those that a mount reads.
-use Rattle.std.proofs.Common.{◌≡◌, ◌≢◌, ◌⊎◌, inl, inr, ℕ, zero, suc, ◌+◌, ◌-◌, ◌%◌, ◌<◌, ◌≤◌, true, false, cond, ◌==◌, Option, Some, None, List, length, take, drop, get_or, set, refl, sym, ◌∙◌, ap, subst, arith, eq-eqb, length-set, get_or-set_other, get_or-set_same}
+use Rattle.std.proofs.Common.{◌≡◌, ◌≢◌, ◌⊎◌, inl, inr, ℕ, zero, suc, ◌+◌, ◌-◌, ◌%◌, ◌<◌, ◌≤◌, false, cond, ◌==◌, Option, Some, None, List, length, take, get_or, set, refl, sym, ◌∙◌, ap, subst, arith, eq-eqb, length-set, get_or-set_other, get_or-set_same}
 use Rattle.std.proofs.Math.Nat.{mod-lt}
 use Rattle.std.proofs.lemmas.Bool.{cases_lt, ne_eqb, true≢false}
-use Rattle.std.proofs.lemmas.List.{take-take, drop-take}
 use Rattle.std.specs.Option.{option_map}
 use Rattle.fl_mark.specs.Mark.{state_of_page}
 use Rattle.fl_mark.specs.declared.page_state.PageState.{PageState}
 use Rattle.fl_mark.specs.declared.page_state.PageState.TheVariants.{Blank, Torn, Committed, Void}
 use Rattle.fl_model.specs.Row.{number_of}
+use Rattle.fl_model.proofs.Lists.{take-drop-take}
 use Rattle.fl_ring.specs.Newest.{commits, NewestAmong}
 use Rattle.fl_ring.specs.Ring.{Shape, place}
 use Rattle.fl_ring.specs.declared.newest.NewestPage.{NewestPage}
 use Rattle.fl_ring.proofs.Modulo.{apart}
+use Rattle.fl_ring.proofs.PageStates.{committed-is}
 use Rattle.fl_index.specs.declared.mount.Newest.{Newest}
 use Rattle.fl_index.specs.Headers.{header_of, IsNewest, AreRemembered}
 use Rattle.fl_index.specs.Page.{page_first, page_entries, first_on, first_where, newest_of, newest_where}
@@ -35,24 +36,13 @@ no-first-on page h = no-first (state_of_page page) (page_first page) h
 pub first-on : (page : List ℕ) → state_of_page page ≡ Committed → first_on page ≡ Some (page_first page)
 first-on page e = ap (λ (s : PageState). first_where s (page_first page)) e
 
--- what stands before the entries of a page
-header-part : (page : List ℕ) (n m : ℕ) → n + m ≤ 16 → take m (drop n (take 16 page)) ≡ take m (drop n page)
-header-part page n m le =
-    sym (drop-take n m (take 16 page)) ∙ (ap (drop n) (take-take (n + m) 16 page le) ∙ drop-take n m page)
-
 abbrev header_with : ℕ → ℕ → ℕ → Newest
 header_with at first count = record { page = at; first = first; count = count }
 
 pub header-same : (at : ℕ) (page : List ℕ) → header_of at (take 16 page) ≡ header_of at page
 header-same at page =
-    ap (λ (k : ℕ). header_with at k (page_entries (take 16 page))) (ap number_of (header-part page 4 4 (omega arith)))
-    ∙ ap (header_with at (page_first page)) (ap number_of (header-part page 8 2 (omega arith)))
-
-committed-by : (s : PageState) → commits s ≡ true → s ≡ Committed
-committed-by Committed e = refl
-committed-by Blank e = absurd (true≢false (sym e))
-committed-by Torn e = absurd (true≢false (sym e))
-committed-by Void e = absurd (true≢false (sym e))
+    ap (λ (k : ℕ). header_with at k (page_entries (take 16 page))) (ap number_of (take-drop-take 4 4 16 page (omega arith)))
+    ∙ ap (header_with at (page_first page)) (ap number_of (take-drop-take 2 8 16 page (omega arith)))
 
 not-committed : (s : PageState) → commits s ≡ false → s ≡ Committed → ⊥
 not-committed s e is = true≢false (ap commits (sym is) ∙ e)
@@ -80,7 +70,7 @@ newest-header pages r from to (Some n) le is =
     let at : ℕ → List ℕ = λ number. pages (place r number) in
     let k = n.number - from in
     let number : from + k ≡ n.number = omega (arith, is.within) in
-    let here : state_of_page (at (from + k)) ≡ Committed = ap (λ (m : ℕ). state_of_page (at m)) number ∙ committed-by (state_of_page (at n.number)) is.committed in
+    let here : state_of_page (at (from + k)) ≡ Committed = ap (λ (m : ℕ). state_of_page (at m)) number ∙ committed-is (state_of_page (at n.number)) is.committed in
     let last : newest_of at from (to - from) ≡ Some n.number =
     older at from (suc k) (to - from) (omega (arith, is.within)) (λ m low high. is.later m (omega (arith, low, number)) (omega (arith, high, le)))
     ∙ (ap (λ (s : PageState). newest_where s (from + k) (newest_of at from k)) here ∙ ap (λ (m : ℕ). Some m) number) in

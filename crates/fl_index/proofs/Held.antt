@@ -14,7 +14,7 @@ use Rattle.fl_model.proofs.FullPages.{full-below}
 use Rattle.fl_index.proofs.ListingPages.{listing-is, listing-no}
 use Rattle.fl_index.proofs.LookupsOfTable.{ListingPage, listing-page}
 
-page-some : (number : ℕ) (o : Option ℕ) → is_page number o ≡ true → o ≡ Some number
+pub page-some : (number : ℕ) (o : Option ℕ) → is_page number o ≡ true → o ≡ Some number
 page-some number None e = absurd (false≢true e)
 page-some number (Some page) e = ap (λ (n : ℕ). Some n) (eqb-true page number e)
 

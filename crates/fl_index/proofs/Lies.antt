@@ -1,11 +1,10 @@
 -- An index lies on a flash as long as calls leave its plan, and the flash its geometry.
-use Rattle.std.proofs.Common.{◌≡◌, ◌+◌, ◌*◌, ◌^◌, ◌<◌, ◌≤◌, Option, Some, None, is_some, false, refl, sym, ◌∙◌, ap, subst}
+use Rattle.std.proofs.Common.{◌≡◌, ◌+◌, ◌≤◌, Option, Some, None, sym, ◌∙◌, subst}
 use Rattle.std.specs.Option.{ForSome}
-use Rattle.std.proofs.lemmas.Bool.{false≢true}
 use Rattle.std.proofs.lemmas.Option.{none-some, same_Some}
-use Rattle.fl_base.specs.declared.types.Geometry.{Geometry}
 use Rattle.fl_base.specs.declared.types.RingPlace.{RingPlace}
-use Rattle.fl_flash.specs.Flash.{FlashState, Goes, pages}
+use Rattle.fl_flash.specs.Flash.{FlashState, Goes}
+use Rattle.fl_frame.proofs.CallsInTurn.{few-goes}
 use Rattle.fl_ring.specs.Place.{LiesOn as LiesIn}
 use Rattle.fl_ring.specs.declared.ring.Ring.{Ring}
 use Rattle.fl_index.specs.declared.index.BitmapIndex.{BitmapIndex}
@@ -15,16 +14,9 @@ pub lies-later : (old new : BitmapIndex) (f g : FlashState) → IsSamePlan old n
 lies-later old new f g same lies goes ring = record {
   geometry = goes.geometry ∙ (lies.geometry ∙ sym same.geometry);
   within = subst (λ (p : RingPlace). p.first_block + p.blocks ≤ g.blocks) (sym same.place) (subst (λ n. old.place.first_block + old.place.blocks ≤ n) (sym goes.blocks) lies.within);
-  few = subst (λ n. n < 2 ^ 32) (sym same-pages) lies.few;
+  few = few-goes f g goes lies.few;
   ring = ring;
 }
-  where
-    same-pages : pages g ≡ pages f
-    same-pages = ap (λ n. n * g.geometry.block) goes.blocks ∙ ap (λ (x : Geometry). f.blocks * x.block) goes.geometry
-
-pub not-running : (o : Option Ring) → is_some o ≡ false → o ≡ None
-not-running None down = refl
-not-running (Some ring) down = absurd (false≢true (sym down))
 
 -- there is no ring in memory, or this one
 pub no-ring : (o : Option Ring) (g : FlashState) → o ≡ None → ForSome o (λ r. LiesIn r g)

@@ -68,9 +68,6 @@ still-room waiting most then_ else_ lt = by-test (waiting == most) refl
     by-test true e = let same = eqb-true waiting most e in absurd (omega (arith, same, lt))
     by-test false e = refl
 
-pub not-full : (waiting most : ℕ) → waiting < most → most ≤ waiting → ⊥
-not-full waiting most lt le = omega (arith, lt, le)
-
 -- a page more of those from one on
 pub one-more : (from number after last : ℕ) → from ≤ number → number < after → after ≡ last → number - from + 1 ≤ last - from
 one-more from number after last low high same = omega (arith, low, high, same)

@@ -9,12 +9,6 @@ use Rattle.fl_model.specs.Layout.{IndexPage}
 use Rattle.fl_model.proofs.Lists.{slice_get-drop, slice_get-push, slice_get-short, slice_get-some, last_or-get, drop_none}
 use Rattle.fl_model.proofs.FullPages.{full-split}
 
-pub drop-front : {X : Type 0} (k : ℕ) (xs ys : List X) → k ≤ length xs → drop k (xs ++ ys) ≡ drop k xs ++ ys
-drop-front zero [] ys h = drop_none ys
-drop-front zero (x ∷ xs) ys h = refl
-drop-front (suc k) [] ys h = absurd (omega arith)
-drop-front (suc k) (x ∷ xs) ys h = drop-front k xs ys (omega arith)
-
 drop-empty : {X : Type 0} (k : ℕ) → let xs : List X = [] in drop k xs ≡ []
 drop-empty zero = refl
 drop-empty (suc k) = refl
@@ -63,11 +57,6 @@ ascend-push X page firsts asc le i j a b lt e f = by_place (slice_get-push first
     by_place (inr e) (inl f) = absurd (omega (arith, slice_get-short firsts j b f, e.0, lt))
     by_place (inr e) (inr f) = absurd (omega (arith, e.0, f.0, lt))
 
-pub get_or-left : {X : Type 0} (xs ys : List X) (i : ℕ) (d : X) → i < length xs → get_or (xs ++ ys) i d ≡ get_or xs i d
-get_or-left [] ys i d h = absurd (omega arith)
-get_or-left (x ∷ xs) ys zero d h = refl
-get_or-left (x ∷ xs) ys (suc i) d h = get_or-left xs ys i d (omega arith)
-
 pub get_or-end : {X : Type 0} (xs : List X) (y d : X) → get_or (xs ++ y ∷ []) (length xs) d ≡ y
 get_or-end [] y d = refl
 get_or-end (x ∷ xs) y d = get_or-end xs y d
@@ -80,11 +69,6 @@ as-many-drop p counts pages h = omega (arith, length-drop (full_pages (take p co
 
 abbrev pub firsts_of : List IndexPage → List ℕ
 firsts_of pages = map (λ page. page.first) pages
-
-pub first-at : (pages : List IndexPage) (k : ℕ) (page : IndexPage) → slice_get pages k ≡ Some page → slice_get (firsts_of pages) k ≡ Some page.first
-first-at [] k page e = absurd (none-some page e)
-first-at (p ∷ ps) zero page e = let same : p ≡ page = cc in rw same refl
-first-at (p ∷ ps) (suc k) page e = first-at ps k page e
 
 pub firsts-get : (pages : List IndexPage) (k : ℕ) → slice_get (firsts_of pages) k ≡ option_map (λ page. page.first) (slice_get pages k)
 firsts-get [] k = refl

@@ -2,7 +2,6 @@
 use Rattle.std.proofs.Common.{◌≡◌, ℕ, ◌-◌, ◌<◌, ◌≤◌, Bool, ◌&&◌, cond, true, false, Option, Some, None, IfSome, Result, Ok, Err, IfErr, OnOk, refl, ◌∙◌, sym, ap, subst, arith}
 use Rattle.std.proofs.Math.Nat.{le_refl}
 use Rattle.std.specs.Option.{option_map, unwrap_or}
-use Rattle.std.proofs.lemmas.Option.{none-some}
 use Rattle.fl_flash.specs.Buffer.{BufferState}
 use Rattle.fl_flash.specs.Flash.{FlashState}
 use Rattle.fl_flash.specs.declared.flash.FlashFault.{FlashFault}
@@ -26,10 +25,6 @@ pub holds-good : (t : BitmapIndex) (page number : ℕ) (buf : BufferState) (resu
 holds-good t page number buf (Ok None) is = λ n held committed. absurd (is committed)
 holds-good t page number buf (Ok (Some found)) is = λ n held committed. subst (λ m. IsGoodPage (per_page t) m buf.bytes) (sym is.1.number_is ∙ held.number_is) is.1
 holds-good t page number buf (Err fault) is = tt
-
-pub none-any : (o : Option ℕ) (P : ℕ → Type 0) → o ≡ None → IfSome o P
-none-any None P none = tt
-none-any (Some n) P none = absurd (none-some n (sym none))
 
 pub some-any : (o : Option ℕ) (P : ℕ → Type 0) → ((n : ℕ) → P n) → IfSome o P
 some-any None P all = tt

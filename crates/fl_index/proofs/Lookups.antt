@@ -1,10 +1,11 @@
 -- The calls of a lookup, and what they leave in the buffer.
 use Rattle.std.proofs.Common.{◌≡◌, ◌⊎◌, inl, inr, ℕ, zero, suc, ◌+◌, ◌-◌, ◌<◌, ◌≤◌, Bool, true, false, cond, ◌==◌, nat_lt, Option, Some, None, Result, Ok, Err, OnOk, ◌∷◌, take, refl, sym, ◌∙◌, ap, subst, arith}
-use Rattle.std.proofs.lemmas.Bool.{cases_lt, ltb-true, lt-ltb, eqb-true, false≢true}
+use Rattle.std.proofs.lemmas.Bool.{cases_lt, lt-ltb, false≢true, le-ltb}
 use Rattle.std.proofs.lemmas.List.Sums.{sum_by-cons}
 use Rattle.std.specs.List.{slice_get, range_with_len, count_by}
 use Rattle.std.specs.Option.{option_map, unwrap_or}
 use Rattle.std.proofs.lemmas.Option.{none-some, same_Some}
+use Rattle.fl_base.proofs.Tests.{zero_case}
 use Rattle.fl_flash.specs.Buffer.{BufferState}
 use Rattle.fl_flash.specs.Flash.{FlashState, page_at}
 use Rattle.fl_model.specs.Record.{Plan}
@@ -108,10 +109,7 @@ module _ (t : BitmapIndex) (f : FlashState) (first : ℕ) (plan : Plan) (table :
   l = listing-page t f first plan table stands number page within.0 within.1 at-page.here
 
   pub ends : ends_above (per_page t) number (first_in t page) ≡ true
-  ends = ap (ends_above (per_page t) number) l.memory ∙ lt_true number (l.first_page + per_page t) (omega (arith, l.high, X_is t f first plan table stands))
-    where
-      lt_true : (a b : ℕ) → a < b → nat_lt a b ≡ true
-      lt_true a b h = lt-ltb a b h
+  ends = ap (ends_above (per_page t) number) l.memory ∙ lt-ltb number (l.first_page + per_page t) (omega (arith, l.high, X_is t f first plan table stands))
 
   -- the kept index pages before it end at or below the number
   pub before-it : (k : ℕ) → oldest_in t ≤ k → k < page → ends_above (per_page t) number (first_in t k) ≡ false
@@ -127,25 +125,11 @@ module _ (t : BitmapIndex) (f : FlashState) (first : ℕ) (plan : Plan) (table :
           by_count : (0 < p.c) ⊎ (p.c ≤ 0) → nat_lt number (x + per_page t) ≡ false
           by_count (inr z) = let c0 : p.c ≡ 0 = omega (arith, z) in absurd (none-some x (sym (p.memory ∙ ap (λ c. cond (c == 0) None (slice_get (firsts table) (full_pages (take p.i stands.in_ring.ring.counts)))) c0) ∙ e))
           by_count (inl some) =
-              let is : slice_get (firsts table) (full_pages (take p.i stands.in_ring.ring.counts)) ≡ Some x = sym (not_zero p.c some (slice_get (firsts table) (full_pages (take p.i stands.in_ring.ring.counts)))) ∙ (sym p.memory ∙ e) in
+              let is : slice_get (firsts table) (full_pages (take p.i stands.in_ring.ring.counts)) ≡ Some x = sym (zero_case p.c some (slice_get (firsts table) (full_pages (take p.i stands.in_ring.ring.counts)))) ∙ (sym p.memory ∙ e) in
               let less : full_pages (take p.i stands.in_ring.ring.counts) < full_pages (take l.kept.i stands.in_ring.ring.counts) =
               let k = full-below stands.in_ring.ring.counts p.i l.kept.i p.c (omega (arith, p.at, l.kept.at, high)) p.here some in omega (arith, k) in
               let apart = stands.in_ring.facts.firsts _ _ x l.first_page less is l.listed in
-              lt_false number (x + per_page t) (omega (arith, apart, l.low, X_is t f first plan table stands))
-            where
-              not_zero : (c : ℕ) → 0 < c → (o : Option ℕ) → cond (c == 0) None o ≡ o
-              not_zero c some o = by_test (c == 0) refl
-                where
-                  by_test : (b : Bool) → (c == 0) ≡ b → cond b None o ≡ o
-                  by_test true k = absurd (omega (arith, eqb-true c 0 k, some))
-                  by_test false k = refl
-
-              lt_false : (a b : ℕ) → b ≤ a → nat_lt a b ≡ false
-              lt_false a b le = by_test (nat_lt a b) refl
-                where
-                  by_test : (v : Bool) → nat_lt a b ≡ v → v ≡ false
-                  by_test true e = absurd (omega (arith, ltb-true a b e, le))
-                  by_test false e = refl
+              le-ltb number (x + per_page t) (omega (arith, apart, l.low, X_is t f first plan table stands))
 
   module _ (old after : BufferState) (bytes : after.bytes ≡ page_at f (place_in t page)) where
     here : PageIs t f first plan table stands number page after.bytes

@@ -1,11 +1,13 @@
 -- A lookup in an index that stands for that of a table.
-use Rattle.std.proofs.Common.{◌≡◌, ◌⊎◌, inl, inr, ℕ, zero, suc, ◌+◌, ◌-◌, ◌*◌, ◌/◌, ◌%◌, ◌^◌, ◌<◌, ◌≤◌, Bool, true, false, cond, ◌&&◌, ◌||◌, ◌==◌, nat_le, nat_lt, Option, Some, None, IfSome, IsTrue, Result, Ok, Err, List, [], ◌∷◌, ◌++◌, length, take, drop, replicate, refl, sym, ◌∙◌, ap, subst, arith, length-append, append_assoc}
-use Rattle.std.proofs.lemmas.Bool.{cases_lt, ltb-true, leb-true, lt-ltb, le-leb, eqb-true, and_from, and_parts}
+use Rattle.std.proofs.Common.{◌≡◌, ◌⊎◌, inl, inr, ℕ, suc, ◌+◌, ◌-◌, ◌*◌, ◌/◌, ◌%◌, ◌^◌, ◌<◌, ◌≤◌, Bool, true, false, cond, ◌&&◌, ◌||◌, ◌==◌, nat_le, nat_lt, Option, Some, None, IfSome, IsTrue, Result, Ok, Err, List, [], ◌∷◌, ◌++◌, length, take, drop, replicate, refl, sym, ◌∙◌, ap, subst, arith, length-append, append_assoc}
+use Rattle.std.proofs.lemmas.Bool.{cases_lt, ltb-true, leb-true, lt-ltb, le-leb, and_from, and_parts}
 use Rattle.std.proofs.lemmas.List.{take_at}
 use Rattle.std.proofs.Math.Nat.{add-mul, div-le_self}
 use Rattle.std.specs.List.{slice_get, list_any, flat_map}
 use Rattle.std.specs.Option.{option_map, unwrap_or}
-use Rattle.std.proofs.lemmas.Option.{none-some, same_Some}
+use Rattle.std.proofs.lemmas.Option.{same_Some}
+use Rattle.std.proofs.Math.Bool.{or-true}
+use Rattle.fl_base.proofs.Tests.{not_zero, zero_case}
 use Rattle.fl_flash.specs.Flash.{FlashState, page_at}
 use Rattle.fl_mark.specs.Mark.{state_of_page}
 use Rattle.fl_mark.specs.declared.page_state.PageState.TheVariants.{Committed}
@@ -16,7 +18,7 @@ use Rattle.fl_model.specs.Layout.{IndexEntry, index_body, committed, full_of, In
 use Rattle.fl_model.specs.Limits.{is_indexed, is_listed, waits}
 use Rattle.fl_model.specs.Image.{rows_at}
 use Rattle.fl_model.specs.Agrees.{TellsAt, is_told}
-use Rattle.fl_model.proofs.Lists.{slice_get-some, slice_get-short, each-at}
+use Rattle.fl_model.proofs.Lists.{slice_get-some, slice_get-short, each-at, any-at}
 use Rattle.fl_page.specs.declared.fault.ReadFault.{ReadFault}
 use Rattle.fl_page.specs.declared.fault.ReadFault.TheVariants.{Flash, BadPage}
 use Rattle.fl_ring.specs.Place as place
@@ -36,8 +38,9 @@ use Rattle.fl_index.specs.declared.page.EntryForm.{EntryForm}
 use Rattle.fl_bitmap.specs.Widths.{is_bits}
 use Rattle.fl_index.specs.Standing.{StandsForRing, Stands, bytes_in}
 use Rattle.fl_model.proofs.FullPages.{full-page}
+use Rattle.fl_model.proofs.FullIndex.{first-at}
 use Rattle.fl_index.proofs.WaitingEntries.{InFront, plan_form, length-entry, read-at, full-at, bitmap-small}
-use Rattle.fl_index.proofs.Lists.{below-end, first-at, firsts-length}
+use Rattle.fl_index.proofs.Lists.{below-end, firsts-length}
 use Rattle.fl_index.proofs.ListingPages.{listing-is, listing-no}
 use Rattle.fl_index.proofs.SealEnds.{planned-page, planned-form, planned-bits, planned-ring, planned-shape}
 
@@ -89,11 +92,7 @@ index-page plan number first entries page small small_first len few is =
 
 -- an entry that tells of a page with rows has its bitmap
 pub told-some : (plan : Plan) (rows : ℕ) → 0 < rows → IsTrue (is_told plan rows)
-told-some plan rows some = ap (λ b. plan.full_index || b) (lt-ltb 0 rows some) ∙ or_true plan.full_index
-  where
-    or_true : (b : Bool) → (b || true) ≡ true
-    or_true true = refl
-    or_true false = refl
+told-some plan rows some = ap (λ b. plan.full_index || b) (lt-ltb 0 rows some) ∙ or-true plan.full_index
 
 pub told-found : (plan : Plan) (rows : List Entry) (entries : List IndexEntry) (j : ℕ) (page : List ℕ) (k : ℕ) → ((b : IndexEntry) → slice_get entries j ≡ Some b → IsAt (plan_form plan) page k b) →
     TellsAt plan rows (slice_get entries j) → IsTrue (is_bits plan.bits) → TellsRows plan rows (found_at (plan_form plan) page k)
@@ -118,15 +117,6 @@ told-found plan rows entries j page k at tells bits = by_entry (slice_get entrie
 any-none : (p : ℕ → Bool) (xs : List ℕ) → ((k x : ℕ) → slice_get xs k ≡ Some x → p x ≡ false) → list_any p xs ≡ false
 any-none p [] h = refl
 any-none p (x ∷ xs) h = ap (λ b. b || list_any p xs) (h 0 x refl) ∙ any-none p xs (λ k y e. h (suc k) y e)
-
-pub any-some : (p : ℕ → Bool) (xs : List ℕ) (k x : ℕ) → slice_get xs k ≡ Some x → p x ≡ true → list_any p xs ≡ true
-any-some p [] k x e t = absurd (none-some x e)
-any-some p (y ∷ ys) zero x e t = let same : y ≡ x = cc in ap (λ b. b || list_any p ys) (ap p same ∙ t)
-any-some p (y ∷ ys) (suc k) x e t = ap (λ b. p y || b) (any-some p ys k x e t) ∙ or_true (p y)
-  where
-    or_true : (b : Bool) → (b || true) ≡ true
-    or_true true = refl
-    or_true false = refl
 
 module _ (t : BitmapIndex) (f : FlashState) (first : ℕ) (plan : Plan) (table : Table) (stands : Stands t f first plan table) where
   abbrev in_ring : StandsForRing t f first plan table
@@ -196,13 +186,6 @@ module _ (t : BitmapIndex) (f : FlashState) (first : ℕ) (plan : Plan) (table :
       by_count k (inl some) =
           by_first k some (slice_get (firsts table) (full_pages (take k.i ring.counts))) refl
           (k.memory ∙ ap (λ b. cond b None (slice_get (firsts table) (full_pages (take k.i ring.counts)))) (not_zero k.c some))
-        where
-          not_zero : (c : ℕ) → 0 < c → (c == 0) ≡ false
-          not_zero c h = by_test (c == 0) refl
-            where
-              by_test : (b : Bool) → (c == 0) ≡ b → b ≡ false
-              by_test true k = absurd (omega (arith, eqb-true c 0 k, h))
-              by_test false k = refl
       by_count k (inr none) =
           let z : k.c ≡ 0 = omega (arith, none) in
           absurd (no_page (ap (lists (per_page t) number) (sym (k.memory ∙ ap (λ c. cond (c == 0) None (slice_get (firsts table) (full_pages (take k.i ring.counts)))) z)) ∙ h))
@@ -215,12 +198,8 @@ module _ (t : BitmapIndex) (f : FlashState) (first : ℕ) (plan : Plan) (table :
   pub listed-indexed : (number page : ℕ) → ListingPage number page → is_indexed plan table number ≡ true
   listed-indexed number page l =
       and_from (nat_lt 0 plan.index_blocks) _ some_index
-      (ap (λ b. waits table number || b) (any-some (λ first. nat_le first number && nat_lt number (first + entries_per_page plan)) (firsts table) _ l.first_page l.listed
-      (and_from _ _ (le-leb l.first_page number l.low) (lt-ltb number (l.first_page + entries_per_page plan) l.high))) ∙ or_true (waits table number))
-    where
-      or_true : (b : Bool) → (b || true) ≡ true
-      or_true true = refl
-      or_true false = refl
+      (ap (λ b. waits table number || b) (any-at (λ first. nat_le first number && nat_lt number (first + entries_per_page plan)) (firsts table) _ l.first_page l.listed
+      (and_from _ _ (le-leb l.first_page number l.low) (lt-ltb number (l.first_page + entries_per_page plan) l.high))) ∙ or-true (waits table number))
 
   pub waits-indexed : (number : ℕ) → is_waiting t number ≡ true → is_indexed plan table number ≡ true
   waits-indexed number h =
@@ -264,13 +243,6 @@ module _ (t : BitmapIndex) (f : FlashState) (first : ℕ) (plan : Plan) (table :
               stands.in_ring.first_of p.i p.c p.here ∙ (zero_case p.c p.some (slice_get (firsts table) (full_pages (take p.i ring.counts))) ∙ (ap (slice_get (firsts table)) p.before ∙ e)) in
               let no = listing-no (per_page t) (first_in t) number (next_in t - oldest_in t) (oldest_in t) (model.oldest ring + p.i) none (omega (arith, number_old)) (omega (arith, number_old, kept_len, lt_i)) in
               ap (λ n. nat_le x number && nat_lt number (x + n)) (sym X_is) ∙ (ap (lists (per_page t) number) (sym memory) ∙ no)
-            where
-              zero_case : (c : ℕ) → 0 < c → (o : Option ℕ) → cond (c == 0) None o ≡ o
-              zero_case c some o = by_test (c == 0) refl
-                where
-                  by_test : (b : Bool) → (c == 0) ≡ b → cond b None o ≡ o
-                  by_test true k = absurd (omega (arith, eqb-true c 0 k, some))
-                  by_test false k = refl
 
   -- the page that lists a data page holds its bitmap
   pub record PageIs (number page : ℕ) (bytes : List ℕ) : Type 0 where

@@ -1,5 +1,5 @@
 -- What the calls of a mount say of its index, over any bytes.
-use Rattle.std.proofs.Common.{◌≡◌, ℕ, ◌+◌, ◌-◌, ◌*◌, ◌<◌, ◌≤◌, Bool, true, false, cond, ◌&&◌, IsTrue, Option, Some, None, ◌%◌, get_or, length, List, inl, inr, refl, sym, ◌∙◌, ap, subst, arith}
+use Rattle.std.proofs.Common.{◌≡◌, ℕ, ◌+◌, ◌-◌, ◌*◌, ◌<◌, ◌≤◌, IsTrue, Option, Some, None, ◌%◌, get_or, length, List, inl, inr, refl, sym, ◌∙◌, ap, subst, arith}
 use Rattle.std.proofs.Math.Nat.{mul-le-mul_right, mul-le-mul_left}
 use Rattle.std.proofs.lemmas.Option.{same_Some}
 use Rattle.fl_base.specs.declared.types.Geometry.{Geometry}
@@ -7,19 +7,18 @@ use Rattle.fl_base.specs.declared.types.RingPlace.{RingPlace}
 use Rattle.fl_flash.specs.Flash.{FlashState, page_at}
 use Rattle.fl_flash.specs.declared.flash.FlashFault.{FlashFault}
 use Rattle.fl_ring.specs.Finding.{FoundFault}
-use Rattle.fl_ring.specs.Head.{one}
 use Rattle.fl_frame.specs.Reads.{OnlyReads, FewReads}
 use Rattle.fl_frame.specs.Causes.{ReadFails}
 use Rattle.fl_ring.specs.Mounting.{shape_at, search_reads, HasNumbers, FailsAs}
 use Rattle.fl_ring.specs.Place.{next_of, oldest_of, shape_of}
 use Rattle.fl_ring.specs.Repairing.{Beside}
-use Rattle.fl_ring.specs.Ring.{Shape, OutsideStands, place, room, is_due_at}
+use Rattle.fl_ring.specs.Ring.{Shape, OutsideStands, place}
 use Rattle.fl_ring.specs.declared.fault.RingFault.{RingFault}
 use Rattle.fl_ring.specs.declared.fault.RingFault.TheVariants.{Flash, BadHead, BadGap, BadPage, NoNumber}
 use Rattle.fl_ring.specs.declared.ring.Ring.{Ring}
 use Rattle.fl_ring.proofs.Founds.{same_pages}
 use Rattle.fl_frame.proofs.ReadsInTurn.{same_page}
-use Rattle.fl_ring.proofs.TornPages.{kept_few}
+use Rattle.fl_ring.proofs.NewestPages.{ring_few}
 use Rattle.fl_index.specs.declared.index.BitmapIndex.{BitmapIndex}
 use Rattle.fl_index.specs.Finding.{ReadsRing, FindsEnd, FindsIndex, RefusesEnd, RefusesIndex, HasEnd, IsEnd, pages_of}
 use Rattle.fl_index.specs.Headers.{AreRemembered, kept_page}
@@ -96,23 +95,6 @@ refuses-index old f g (BadGap page) h = h
 refuses-index old f g (BadPage page wanted there) h = h
 refuses-index old f g (NoNumber least) h = h
 
--- a ring is found to keep no more pages than it has
-pub ring-few : (old new : FlashState) (r : Shape) (ring : Ring) → 1 ≤ r.blocks → HasNumbers old r 0 ring new → IsTrue old.media.tells → next_of ring - oldest_of ring ≤ room r
-ring-few old new r ring some h told =
-    let few = kept_few old r 0 (omega (arith, some)) h.numbers (h.is_found told) in
-    let next = h.next in
-    let more : one h.numbers.torn ≤ 1 = one_at_most h.numbers.torn in
-    let low : h.numbers.oldest ≤ ring.oldest = subst (λ n. h.numbers.oldest ≤ n) (sym h.oldest) (not_less (h.numbers.torn && is_due_at r ring.next (ring.next - h.numbers.oldest))) in
-    omega (arith, few, next, more, low, (h.is_found told).oldest)
-  where
-    one_at_most : (b : Bool) → one b ≤ 1
-    one_at_most true = omega arith
-    one_at_most false = omega arith
-
-    not_less : (b : Bool) → h.numbers.oldest ≤ cond b (h.numbers.oldest + r.per_block) h.numbers.oldest
-    not_less true = omega arith
-    not_less false = omega arith
-
 -- four for each page
 pub four-each : (blocks pages : ℕ) → 3 ≤ blocks → 2 ≤ pages → blocks + pages + blocks * pages + pages + blocks * pages ≤ 4 * (blocks * pages)
 four-each blocks pages b p =
@@ -144,7 +126,7 @@ module _ (old found : BitmapIndex) (f mid g : FlashState) (end : Option ℕ) (h 
   unread-pages fault fails = inr (record { ring = ring; ring_reads = reads-ring; fails = fails })
 
   pub found-few : IsTrue f.media.tells → next_of ring - oldest_of ring ≤ old.place.blocks * old.geometry.block
-  found-few told = ring-few f mid (shape_at old.place old.geometry) ring (omega (arith, old.some_blocks)) (subst (λ (x : Ring). HasNumbers f (shape_at old.place old.geometry) 0 x mid) ring-is h.numbers) told
+  found-few told = ring_few f mid (shape_at old.place old.geometry) 0 ring (omega (arith, old.some_blocks)) (subst (λ (x : Ring). HasNumbers f (shape_at old.place old.geometry) 0 x mid) ring-is h.numbers) told
 
   pages_now : kept_page ring mid ≡ pages_of old g
   pages_now =

@@ -22,7 +22,8 @@ use Rattle.fl_index.specs.Outcomes.{end_of}
 use Rattle.fl_index.specs.Page.{page_first, first_on, first_where, newest_of, newest_where}
 use Rattle.fl_index.specs.Standing.{HasIndex, HoldsIndex, bytes_in}
 use Rattle.fl_model.proofs.FullPages.{full-one, full-cons}
-use Rattle.fl_index.proofs.Lists.{below-end, first-at, firsts-length}
+use Rattle.fl_model.proofs.FullIndex.{first-at}
+use Rattle.fl_index.proofs.Lists.{below-end, firsts-length}
 use Rattle.fl_index.proofs.LookupsOfTable.{IsIndexPage, index-page}
 use Rattle.fl_index.proofs.State.{HaveSize}
 
@@ -90,9 +91,6 @@ module _ (page : ℕ → List ℕ) (first : ℕ) (plan : Plan) (table : Table) (
   take-more (x ∷ xs) (suc n) c e =
       omega (arith, full-cons x (take (suc n) xs), full-cons x (take n xs), take-more xs n c e)
 
-  one-page : (c : ℕ) → 0 < c → full_pages (c ∷ []) ≡ 1
-  one-page c h = full-one c h
-
   pub newest-there : (n : ℕ) → n ≤ length ring.counts → Newest n (newest_of (bytes_in page first plan) (model.oldest ring) n)
   newest-there zero h = nothing ring.counts
     where
@@ -111,7 +109,7 @@ module _ (page : ℕ → List ℕ) (first : ℕ) (plan : Plan) (table : Table) (
       by_count c e (inl some) before =
           let l = is-listed n c e some in
           subst (λ (s : PageState). Newest (suc n) (newest_where s (model.oldest ring + n) (newest_of (bytes_in page first plan) (model.oldest ring) n))) (sym l.is.committed_is)
-          (n, c, refl, e, some, take-more ring.counts n c e ∙ ap (λ k. full_pages (take n ring.counts) + k) (one-page c some))
+          (n, c, refl, e, some, take-more ring.counts n c e ∙ ap (λ k. full_pages (take n ring.counts) + k) (full-one c some))
       by_count c e (inr none) before =
           let z : c ≡ 0 = omega (arith, none) in
           subst (λ (s : PageState). Newest (suc n) (newest_where s (model.oldest ring + n) (newest_of (bytes_in page first plan) (model.oldest ring) n))) (sym (void-none n (e ∙ ap (λ (k : ℕ). Some k) z)))

@@ -1,35 +1,30 @@
 -- The operations on the index ring are those of its table.
-use Rattle.std.proofs.Common.{◌≡◌, ℕ, ◌+◌, ◌-◌, ◌^◌, ◌<◌, ◌≤◌, ◌⊎◌, inl, inr, Bool, true, false, cond, ◌&&◌, Option, Some, None, Result, List, [], ◌∷◌, ◌++◌, map, length, take, drop, refl, sym, ◌∙◌, ap, subst, arith, IsOk, IsErrOf, IsTrue}
-use Rattle.std.proofs.lemmas.List.{append-nil}
+use Rattle.std.proofs.Common.{◌≡◌, ℕ, ◌+◌, ◌-◌, ◌^◌, ◌<◌, ◌≤◌, ◌⊎◌, inl, inr, Bool, true, false, cond, ◌&&◌, Option, Some, None, Result, List, [], ◌∷◌, ◌++◌, length, take, drop, refl, sym, ◌∙◌, ap, subst, arith, IsTrue}
+use Rattle.std.proofs.lemmas.List.{append-nil, length_push}
 use Rattle.std.specs.List.{slice_get, AllByRecursion}
 use Rattle.std.specs.Option.{option_map, unwrap_or}
 use Rattle.std.proofs.lemmas.Option.{none-some, same_Some}
 use Rattle.fl_flash.specs.Flash.{FlashState}
 use Rattle.fl_flash.specs.declared.flash.FlashFault.{FlashFault}
-use Rattle.fl_flash.specs.declared.flash.FlashFault.TheVariants.{PowerLost, Media}
 use Rattle.fl_model.specs.Record.{Plan, entries_per_page}
 use Rattle.fl_model.specs.Ring as model
 use Rattle.fl_model.specs.Table.{Table, RingName, IndexRing, shape_of, full_pages, firsts, with_ring, seal_page, seal_buffer, after_seal, is_dirty}
 use Rattle.fl_model.specs.Layout.{IndexEntry, IndexPage, committed, index_body}
 use Rattle.fl_model.specs.Image.{HoldsEntries}
 use Rattle.fl_model.specs.Agrees.{TellPages}
-use Rattle.fl_model.specs.Work.{Kind, Body, Mark, VoidMark, Erase, effect, Device, PartEnd, Whole, CutIn, FailedIn, PartProgress}
+use Rattle.fl_model.specs.Work.{Kind, Body, Mark, VoidMark, Erase, effect, Device, Whole, PartProgress}
 use Rattle.fl_model.specs.Within.{seal_within, effect_within, TablePerforms}
 use Rattle.fl_model.proofs.Lists.{slice_get-last, slice_get-push, each-push, last_or-push}
-use Rattle.fl_model.proofs.Performs.{performs-along, performs-map, performs-whole, EndsAlong}
+use Rattle.fl_model.proofs.Performs.{performs-whole}
 use Rattle.fl_model.proofs.Among.{seal-all_done}
-use Rattle.fl_frame.specs.Device.{SameDevice}
 use Rattle.fl_ring.specs.Operations.{change, seal_kinds}
 use Rattle.fl_ring.specs.Ring.{RingState, sealed, voided, begun, erased}
-use Rattle.fl_ring.specs.Sealing.{Performed, AnswersEnd}
+use Rattle.fl_ring.specs.Sealing.{Performed}
+use Rattle.fl_ring.proofs.InTable.{AreErases, BeginsMark, erases-where, seal-operations, TablePerformed, performed-lifts}
 use Rattle.fl_model.proofs.FullPages.{full-one, full-last}
 use Rattle.fl_index.proofs.Lists.{firsts_of, firsts-append, end_after, Ascend, ascend-push}
 use Rattle.fl_index.proofs.State.{shape_in, IsStateOf, holds-moved}
 use Rattle.fl_index.proofs.Steps.{with_index, state-kept, last-shifted}
-
--- an operation of the index ring
-abbrev pub of_index : Kind → RingName × Kind
-of_index kind = (IndexRing, kind)
 
 -- a full list of entries waits that makes this body, and no block waits for its erase
 pub record MakesBody (plan : Plan) (body : List ℕ) (table : Table) (ring : model.Ring) : Type 0 where
@@ -125,12 +120,8 @@ sealed-page plan body table s is m body' e = record {
   bytes = ap committed (sym (same_Some _ _ e) ∙ m.body_is) ∙ ap (λ n. committed (index_body plan n (table.rows.next - entries_per_page plan) table.waiting)) here;
 }
   where
-    pushed_length : (xs : List ℕ) (y : ℕ) → length (xs ++ y ∷ []) ≡ length xs + 1
-    pushed_length [] y = refl
-    pushed_length (x ∷ xs) y = let k = pushed_length xs y in omega (arith, k)
-
     here : is.ring.next ≡ is.ring.next + 1 - length (is.ring.counts ++ entries_per_page plan ∷ []) + length is.ring.counts
-    here = let k : length (is.ring.counts ++ entries_per_page plan ∷ []) ≡ length is.ring.counts + 1 = pushed_length is.ring.counts (entries_per_page plan) in omega (arith, k, is.facts.is_ring.not_negative)
+    here = let k : length (is.ring.counts ++ entries_per_page plan ∷ []) ≡ length is.ring.counts + 1 = length_push is.ring.counts (entries_per_page plan) in omega (arith, k, is.facts.is_ring.not_negative)
 
 -- it lists the data pages behind those that are listed
 rises-waited : (plan : Plan) (table : Table) (s : RingState) (is : IsStateOf plan table s) → length table.waiting ≡ entries_per_page plan →
@@ -223,66 +214,6 @@ voided-state first plan table s is shape idle torn =
         ∙ (ap (λ (fs : List IndexPage). record table { index_pages = fs; index = Some (model.sealed (shape_of plan IndexRing) 0 is.ring) }) (sym (append-nil (drop (full_pages (model.given_up (shape_of plan IndexRing) 0 is.ring)) table.index_pages)))
         ∙ ap (λ (n : List IndexEntry). record table { index_pages = drop (full_pages (model.given_up (shape_of plan IndexRing) 0 is.ring)) table.index_pages ++ []; index = Some (model.sealed (shape_of plan IndexRing) 0 is.ring); waiting = n }) idle)
 
--- how the operations of a table ended, by the answer
-abbrev pub TableAnswers : PartEnd Table → Result (Unit {0}) FlashFault → FlashState → Type 0
-TableAnswers Whole result new = IsOk result × (new.is_on ≡ true)
-TableAnswers (CutIn before) result new = IsErrOf result PowerLost × (new.is_on ≡ false)
-TableAnswers (FailedIn before) result new = IsErrOf result Media × (new.is_on ≡ true)
-
--- operations of the index ring were done in order, until one failed, and the flash stands for the index that this leaves
-pub record IndexPerformed (Q : Table → Type 0) (plan : Plan) (operations : List (RingName × Kind)) (table : Table) (rose : Bool) (device : Device) (result : Result (Unit {0}) FlashFault) (new : FlashState) (left : RingState) : Type 0 where
-  pub now : PartProgress Table
-  pub did : TablePerforms plan rose operations device table now
-  pub answer : TableAnswers now.end result new
-  pub counts : SameDevice new now.device
-  pub left_is : IsStateOf plan now.state left
-  pub more : Q now.state
-
--- the same operations of the ring and of its table, where each keeps a relation between their states
-module _ (Q : Table → Type 0) (first : ℕ) (plan : Plan) (body : List ℕ) (R : List Kind → RingState → Table → Type 0)
-    (step : (kind : Kind) (kinds : List Kind) (s : RingState) (table : Table) → R (kind ∷ kinds) s table → R kinds (change (shape_in first plan) body kind s) (effect plan IndexRing kind table))
-    (known : (kinds : List Kind) (s : RingState) (table : Table) → R kinds s table → IsStateOf plan table s × Q table) where
-  pub performed-lifts : (rose : Bool) (kinds : List Kind) (device : Device) (s : RingState) (table : Table) (result : Result (Unit {0}) FlashFault) (new : FlashState) → R kinds s table →
-      (h : Performed (shape_in first plan) (change (shape_in first plan) body) rose kinds device s result new) →
-      IndexPerformed Q plan (map of_index kinds) table rose device result new h.now.state
-  performed-lifts rose kinds device s table result new r h =
-      let along = performs-along R (λ kind. kind) (change (shape_in first plan) body) (effect plan IndexRing) step rose kinds device s table h.now r h.did in
-      let e = ends h.now.end along.other.end h.now.state along.other.state along.ends h.answer in
-      record {
-        now = along.other;
-        did = performs-map (λ (o : RingName × Kind). o.1) (effect_within plan) of_index rose kinds device table along.other along.performs;
-        answer = e.2;
-        more = e.1;
-        counts = subst (λ (d : Device). SameDevice new d) (sym along.device_is) h.counts;
-        left_is = e.0;
-      }
-    where
-      ends : (a : PartEnd RingState) (b : PartEnd Table) (x : RingState) (t : Table) → EndsAlong R a b x t → AnswersEnd a result new → IsStateOf plan t x × Q t × TableAnswers b result new
-      ends Whole Whole x t e a = let k = known [] x t e in (k.0, k.1, a)
-      ends (CutIn s') (CutIn t') x t e a = let k = known e.1.0 x t e.1.1 in (k.0, k.1, a)
-      ends (FailedIn s') (FailedIn t') x t e a = let k = known e.1.0 x t e.1.1 in (k.0, k.1, a)
-      ends Whole (CutIn t') x t e a = absurd e
-      ends Whole (FailedIn t') x t e a = absurd e
-      ends (CutIn s') Whole x t e a = absurd e
-      ends (CutIn s') (FailedIn t') x t e a = absurd e
-      ends (FailedIn s') Whole x t e a = absurd e
-      ends (FailedIn s') (CutIn t') x t e a = absurd e
-
--- what is left of a seal's operations
-abbrev pub AreErases : List Kind → Type 0
-AreErases [] = Unit {0}
-AreErases (Erase ∷ kinds) = AreErases kinds
-AreErases (Body ∷ kinds) = ⊥
-AreErases (Mark ∷ kinds) = ⊥
-AreErases (VoidMark ∷ kinds) = ⊥
-
-abbrev pub BeginsMark : List Kind → Type 0
-BeginsMark [] = ⊥
-BeginsMark (Mark ∷ kinds) = AreErases kinds
-BeginsMark (Body ∷ kinds) = ⊥
-BeginsMark (VoidMark ∷ kinds) = ⊥
-BeginsMark (Erase ∷ kinds) = ⊥
-
 abbrev pub HasCome : Plan → List ℕ → List Kind → Table → model.Ring → Type 0
 HasCome plan body [] table ring = Unit {0}
 HasCome plan body (Body ∷ kinds) table ring = MakesBody plan body table ring × BeginsMark kinds
@@ -303,7 +234,7 @@ erases_come plan body (Mark ∷ kinds) table ring h = absurd h
 erases_come plan body (VoidMark ∷ kinds) table ring h = absurd h
 
 mark_comes : (plan : Plan) (body : List ℕ) (kinds : List Kind) (table : Table) (ring : model.Ring) → MakesBody plan body table ring → BeginsMark kinds → HasCome plan body kinds table ring
-mark_comes plan body [] table ring m h = absurd h
+mark_comes plan body [] table ring m h = tt
 mark_comes plan body (Mark ∷ kinds) table ring m h = (m, h)
 mark_comes plan body (Body ∷ kinds) table ring m h = absurd h
 mark_comes plan body (VoidMark ∷ kinds) table ring m h = absurd h
@@ -332,30 +263,16 @@ step-along first plan body shape Erase kinds s table r =
 pub seal-lifts : (first : ℕ) (plan : Plan) (body : List ℕ) (table : Table) (s : RingState) (is : IsStateOf plan table s) (rose : Bool) (device : Device) (result : Result (Unit {0}) FlashFault) (new : FlashState) →
     model.IsShape (shape_of plan IndexRing) → MakesBody plan body table is.ring →
     (h : Performed (shape_in first plan) (change (shape_in first plan) body) rose (seal_kinds (shape_in first plan) s body) device s result new) →
-    IndexPerformed (λ _. Unit {0}) plan (seal_within plan IndexRing table) table rose device result new h.now.state
+    TablePerformed (IsRingOf plan body) plan (seal_within plan IndexRing table) table rose device result new h.now.state
 seal-lifts first plan body table s is rose device result new shape makes h =
-    subst (λ (ops : List (RingName × Kind)). IndexPerformed (λ _. Unit {0}) plan ops table rose device result new h.now.state) (kinds_are (sealed (shape_in first plan) s body).dirty refl)
-    (performed-lifts (λ _. Unit {0}) first plan body (IsRingOf plan body) (step-along first plan body shape) (λ kinds s t r. (r.state, tt)) rose
-    (seal_kinds (shape_in first plan) s body) device s table result new
-    (record { state = is; come = (makes, erases (sealed (shape_in first plan) s body).dirty) }) h)
+    subst (λ (ops : List (RingName × Kind)). TablePerformed (IsRingOf plan body) plan ops table rose device result new h.now.state) (seal-operations IndexRing plan table (shape_in first plan) s body same_dirt)
+    (performed-lifts (IsRingOf plan body) (shape_in first plan) plan IndexRing body (step-along first plan body shape) rose (seal_kinds (shape_in first plan) s body) device s table result new
+    (record { state = is; come = (makes, erases-where (sealed (shape_in first plan) s body).dirty) }) h)
   where
-    erases : (b : Bool) → AreErases (cond b (Erase ∷ []) [])
-    erases true = tt
-    erases false = tt
-
     same_dirt : (sealed (shape_in first plan) s body).dirty ≡ is_dirty IndexRing (seal_buffer plan IndexRing table)
     same_dirt =
         let after = sealed-state first plan body table s is shape makes in
         ap (λ (r : model.Ring). r.dirty) (sym after.counts) ∙ ap (λ (o : Option model.Ring). unwrap_or (option_map (λ r. r.dirty) o) false) (sym after.facts.ring_is)
-
-    kinds_are : (b : Bool) → (sealed (shape_in first plan) s body).dirty ≡ b →
-        map of_index (Body ∷ Mark ∷ (cond b (Erase ∷ []) [])) ≡ seal_within plan IndexRing table
-    kinds_are b e =
-        by_dirt b ∙ ap (λ (d : Bool). (IndexRing, Body) ∷ (IndexRing, Mark) ∷ (cond d ((IndexRing, Erase) ∷ []) [])) (sym e ∙ same_dirt)
-      where
-        by_dirt : (b : Bool) → map of_index (Body ∷ Mark ∷ (cond b (Erase ∷ []) [])) ≡ (IndexRing, Body) ∷ (IndexRing, Mark) ∷ (cond b ((IndexRing, Erase) ∷ []) [])
-        by_dirt true = refl
-        by_dirt false = refl
 
 -- where all of it was done, the index page is sealed
 pub seal-whole : (plan : Plan) (table : Table) (rose : Bool) (device : Device) (now : PartProgress Table) → TablePerforms plan rose (seal_within plan IndexRing table) device table now → now.end ≡ Whole →

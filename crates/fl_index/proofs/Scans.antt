@@ -3,6 +3,7 @@ use Rattle.std.proofs.Common.{◌≡◌, ◌⊎◌, inl, inr, ℕ, suc, ◌+◌,
 use Rattle.std.proofs.lemmas.Bool.{cases_lt, ltb-true, lt-ltb, eqb-true, false≢true, false_from_ne_true, and_parts}
 use Rattle.std.specs.List.{list_any, range_with_len, count_by, AllByRecursion}
 use Rattle.std.proofs.lemmas.Option.{none-some}
+use Rattle.fl_base.proofs.Tests.{one_at_most}
 use Rattle.fl_flash.specs.Buffer.{BufferState}
 use Rattle.fl_flash.specs.Flash.{FlashState, page_at}
 use Rattle.fl_mark.specs.Mark.{state_of_page}
@@ -17,9 +18,10 @@ use Rattle.fl_index.specs.Memory.{first_in, is_waiting, next_in, oldest_in, per_
 use Rattle.fl_index.specs.Page.{page_number, IsGoodPage}
 use Rattle.fl_index.specs.declared.page.Found.{Found}
 use Rattle.fl_index.specs.Standing.{Stands}
-use Rattle.fl_index.proofs.Counts.{count-cons, count-split, count-none, count-fewer, at-most-one}
+use Rattle.fl_index.proofs.Counts.{count-cons, count-split, count-none, count-fewer}
 use Rattle.fl_index.proofs.ListingPages.{listing-is}
 use Rattle.fl_index.proofs.Lookups.{within, ends, before-it, unread-later}
+use Rattle.fl_index.proofs.Held.{page-some}
 
 -- the index page from which a scan may still read
 pub scanning-from : (t : BitmapIndex) (number from : ℕ) (buf : BufferState) → IsScanning t number from buf → from ≡ next_to_read t buf
@@ -56,17 +58,13 @@ lists-ends most number later (Some first) le e =
     let lt = ltb-true later (first + most) b.1 in
     lt-ltb number (first + most) (omega (arith, lt, le))
 
-page-is : (listing : ℕ) (o : Option ℕ) → is_page listing o ≡ true → o ≡ Some listing
-page-is listing None e = absurd (false≢true e)
-page-is listing (Some page) e = ap (λ (n : ℕ). Some n) (eqb-true page listing e)
-
 looked-listed : (b : Bool) (o : Option ℕ) (page : ℕ) → cond b None o ≡ Some page → o ≡ Some page
 looked-listed true o page e = absurd (none-some page e)
 looked-listed false o page e = e
 
 looked-lists : (t : BitmapIndex) (listing number : ℕ) → is_looked_at t listing number ≡ true → lists (per_page t) number (first_in t listing) ≡ true
 looked-lists t listing number e =
-    let h = looked-listed (is_waiting t number) (listing_in t number) listing (page-is listing (listing_of t number) e) in
+    let h = looked-listed (is_waiting t number) (listing_in t number) listing (page-some listing (listing_of t number) e) in
     (listing-is (per_page t) (first_in t) number (next_in t - oldest_in t) (oldest_in t) listing h).here
 
 none-looked : (t : BitmapIndex) (listing number : ℕ) (numbers : List ℕ) → ends_above (per_page t) number (first_in t listing) ≡ false → AllByRecursion (λ n. number ≤ n) numbers → list_any (is_looked_at t listing) numbers ≡ false
@@ -180,7 +178,7 @@ module _ (t : BitmapIndex) (f : FlashState) (first : ℕ) (plan : Plan) (table :
       let moved = ap (λ a. count_by (looked-by t (number ∷ numbers)) (range_with_len a (suc n))) at in
       let front = count-none (looked-by t (number ∷ numbers)) k from (λ j from_j to_j. none-looked t j number (number ∷ numbers) (before-it t f first plan table stands number page listing j (omega (arith, from_j, low)) (omega (arith, to_j, at))) (omega arith, later)) in
       let others = due-same t number (page + 1) numbers (behind looked) in
-      omega (arith, split, moved, front, count-cons (looked-by t (number ∷ numbers)) n page, at-most-one (looked-by t (number ∷ numbers) page), others)
+      omega (arith, split, moved, front, count-cons (looked-by t (number ∷ numbers)) n page, one_at_most (looked-by t (number ∷ numbers) page), others)
 
   -- at least it reads the page where that isn't held
   pub scan-least : (from : ℕ) (old after : BufferState) (a b : FlashState) (numbers : List ℕ) → IsScanning t number from old → listing_of t number ≡ Some page → AllByRecursion (λ n. number ≤ n) numbers →

@@ -70,10 +70,7 @@ sealing-of index f first plan table ring number stands sizes has at left full =
     }
   where
     same_state : (a : model.Ring) → table.index ≡ Some a → (b : model.Ring) → table.index ≡ Some b → a ≡ b
-    same_state a x b y = one (sym x ∙ y)
-      where
-        one : ◌≡◌ {A = Option model.Ring} (Some a) (Some b) → a ≡ b
-        one e = cc
+    same_state a x b y = same_Some a b (sym x ∙ y)
 
     next_is : (r : Ring) → index.ring ≡ Some r → next_in index ≡ place.next_of r
     next_is r e = ap (λ (o : Option Ring). unwrap_or (option_map (λ r. place.next_of r) o) 0) e
@@ -84,10 +81,7 @@ pub number-of : (index : BitmapIndex) (f : FlashState) (first : ℕ) (plan : Pla
 number-of index f first plan table ring number stands has at s is =
     let in_ring = stands.in_ring in
     let next : place.next_of ring ≡ in_ring.ring.next = subst (λ (r : Ring). r.next ≡ in_ring.ring.next) (same_Some _ _ (sym in_ring.memory_is ∙ has)) in_ring.next in
-    at ∙ (next ∙ ap (λ (r : model.Ring). r.next) (one (sym in_ring.facts.ring_is ∙ is.facts.ring_is)))
-  where
-    one : {a b : model.Ring} → ◌≡◌ {A = Option model.Ring} (Some a) (Some b) → a ≡ b
-    one e = cc
+    at ∙ (next ∙ ap (λ (r : model.Ring). r.next) (same_Some _ _ (sym in_ring.facts.ring_is ∙ is.facts.ring_is)))
 
 -- the power is on after a seal that went well
 pub seal-on : (r : Shape) (next : ℕ) (due : Bool) (body : List ℕ) (u : Unit {0}) (old new : FlashState) → SealCalls r next due body old (Ok u) new → new.is_on ≡ true

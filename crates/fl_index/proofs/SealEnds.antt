@@ -1,25 +1,25 @@
 -- How the seal of an index page ends, by what it did to the ring.
-use Rattle.std.proofs.Common.{◌≡◌, ◌≢◌, ◌⊎◌, inl, inr, ℕ, suc, ◌+◌, ◌-◌, ◌*◌, ◌/◌, ◌%◌, ◌<◌, ◌≤◌, Bool, true, false, cond, ◌==◌, IsTrue, Option, Some, None, IfSome, Result, Ok, Err, List, [], ◌∷◌, ◌++◌, length, take, drop, get_or, set, sum, refl, sym, ◌∙◌, ap, subst, arith, length-take, IsOk, get_or-set_other, get_or-set_same}
-use Rattle.std.proofs.lemmas.Bool.{cases_lt, eqb-true}
+use Rattle.std.proofs.Common.{◌≡◌, ◌≢◌, ◌⊎◌, inl, inr, ℕ, suc, ◌+◌, ◌-◌, ◌*◌, ◌/◌, ◌%◌, ◌<◌, ◌≤◌, Bool, cond, ◌==◌, IsTrue, Option, Some, None, IfSome, Ok, Err, List, [], ◌∷◌, ◌++◌, length, take, drop, get_or, set, sum, refl, sym, ◌∙◌, ap, subst, arith, length-take, get_or-set_other, get_or-set_same, not-suc-le-zero}
+use Rattle.std.proofs.lemmas.Bool.{cases_lt}
 use Rattle.std.proofs.lemmas.List.{take-take, drop-take}
 use Rattle.std.proofs.lemmas.List.Sums.{sum_by-take-drop, sum_by-cons}
-use Rattle.std.proofs.Math.Nat.{mod-lt, mul-le-mul_right, add-mul, div-add-mod'}
+use Rattle.std.proofs.Math.Nat.{mod-lt, add-mul, div-add-mod'}
 use Rattle.std.specs.List.{slice_get}
 use Rattle.std.specs.Option.{option_map, unwrap_or}
 use Rattle.std.proofs.lemmas.Option.{none-some, same_Some}
+use Rattle.fl_base.proofs.Tests.{not_zero}
 use Rattle.fl_bitmap.proofs.Widths.{widths}
 use Rattle.fl_bitmap.specs.Widths.{is_bits}
-use Rattle.fl_flash.specs.Flash.{FlashState, pages, page_at}
+use Rattle.fl_flash.specs.Flash.{FlashState, page_at}
 use Rattle.fl_flash.specs.Places.{extent}
 use Rattle.fl_flash.specs.declared.flash.FlashFault.{FlashFault}
-use Rattle.fl_flash.specs.declared.flash.FlashFault.TheVariants.{PowerLost, Media}
 use Rattle.fl_model.specs.Agrees.{TellPages, TellsAt, is_told}
 use Rattle.fl_model.specs.Layout.{IndexPage, IndexEntry}
 use Rattle.fl_model.specs.Record.{Plan, entry_len, entries_per_page}
 use Rattle.fl_model.specs.Ring as model
 use Rattle.fl_model.specs.Table.{Table, Entry, IndexRing, shape_of, full_pages, after_seal, lose, firsts}
 use Rattle.fl_model.specs.Image.{rows_at}
-use Rattle.fl_model.specs.Work.{Device, PartEnd, Whole, CutIn, FailedIn}
+use Rattle.fl_model.specs.Work.{Device, PartEnd}
 use Rattle.fl_model.specs.Within.{seal_within}
 use Rattle.fl_model.proofs.Lists.{slice_get-drop, slice_get-push, slice_get-left, slice_get-short, slice_get-last}
 use Rattle.fl_model.proofs.Sealed.{sealed-torn}
@@ -28,11 +28,11 @@ use Rattle.fl_ring.specs.Mounting.{shape_at}
 use Rattle.fl_ring.specs.Operations.{change, seal_kinds}
 use Rattle.fl_ring.specs.Place as place
 use Rattle.fl_ring.specs.Place.{StandsFor}
-use Rattle.fl_ring.specs.Ring.{Shape, RingState, OnRing, IsShape, count, oldest, sealed}
-use Rattle.fl_ring.specs.Ring.{place as place_at}
+use Rattle.fl_ring.specs.Ring.{Shape, RingState, OnRing, IsShape, count, oldest, sealed, place as place_at}
 use Rattle.fl_ring.specs.Sealing.{Performed, IsReady}
 use Rattle.fl_ring.specs.declared.ring.Ring.{Ring}
-use Rattle.fl_ring.proofs.Lengths.{page_length}
+use Rattle.fl_ring.proofs.InTable.{TableAnswers, all-whole, answers-fault}
+use Rattle.fl_ring.proofs.Lengths.{ring_lengths}
 use Rattle.fl_ring.proofs.Modulo.{apart}
 use Rattle.fl_ring.proofs.SealSteps.{whole_end}
 use Rattle.fl_ring.proofs.Whole.{whole_seal}
@@ -45,35 +45,13 @@ use Rattle.fl_index.specs.Page.{form_len}
 use Rattle.fl_index.proofs.Lists.{firsts-length, firsts-get, firsts-append, firsts_of}
 use Rattle.fl_index.proofs.WaitingEntries.{none-in, plan_form, width-le, width-le22}
 use Rattle.fl_index.proofs.State.{shape_in, HaveSize, full_count, IsStateOf, holds-moved, to-index}
-use Rattle.fl_index.proofs.RingInTable.{TableAnswers, MakesBody, seal-lifts, seal-whole, index-shift, page_waited}
+use Rattle.fl_index.proofs.RingInTable.{MakesBody, seal-lifts, seal-whole, index-shift, page_waited}
 use Rattle.fl_index.proofs.Memories.{planned-same}
 use Rattle.fl_index.proofs.KeptPagesStay.{seal-stands}
 
 -- the answer to a failed operation
 pub fault-ends : (e : PartEnd Table) (fault : FlashFault) (new : FlashState) → TableAnswers e (Err fault) new → FaultEnds e fault new
-fault-ends Whole fault new a = absurd (not_ok a.0)
-  where
-    not_ok : IsOk {T = Unit {0}} {E = FlashFault} (Err fault) → ⊥
-    not_ok e = cc
-fault-ends (CutIn before) fault new a = (is a.0, a.1)
-  where
-    is : ◌≡◌ {A = Result (Unit {0}) FlashFault} (Err fault) (Err PowerLost) → fault ≡ PowerLost
-    is e = cc
-fault-ends (FailedIn before) fault new a = (is a.0, a.1)
-  where
-    is : ◌≡◌ {A = Result (Unit {0}) FlashFault} (Err fault) (Err Media) → fault ≡ Media
-    is e = cc
-
-pub all-whole : (e : PartEnd Table) (u : Unit {0}) (new : FlashState) → TableAnswers e (Ok u) new → (e ≡ Whole) × (new.is_on ≡ true)
-all-whole Whole u new a = (refl, a.1)
-all-whole (CutIn before) u new a = absurd (not_err PowerLost a.0)
-  where
-    not_err : (fault : FlashFault) → ◌≡◌ {A = Result (Unit {0}) FlashFault} (Ok u) (Err fault) → ⊥
-    not_err fault e = cc
-all-whole (FailedIn before) u new a = absurd (not_err Media a.0)
-  where
-    not_err : (fault : FlashFault) → ◌≡◌ {A = Result (Unit {0}) FlashFault} (Ok u) (Err fault) → ⊥
-    not_err fault e = cc
+fault-ends e fault new a = answers-fault (λ (x : PartEnd Table). FaultEnds x fault new) fault new (λ before h. h) (λ before h. h) e a
 
 -- what the plan of an index says of its ring
 module _ (index : BitmapIndex) (first : ℕ) (plan : Plan) (h : IsPlanned index first plan) where
@@ -128,17 +106,9 @@ module _ (index : BitmapIndex) (first : ℕ) (plan : Plan) (h : IsPlanned index 
 -- the pages of a flash on which it lies have their size
 pub lies-size : (index : BitmapIndex) (f : FlashState) (first : ℕ) (plan : Plan) → IsPlanned index first plan → f.geometry ≡ index.geometry → index.place.first_block + index.place.blocks ≤ f.blocks → f.start + extent f.geometry f.blocks ≤ length f.media.content →
     HaveSize first plan (page_at f)
-lies-size index f first plan h geometry within reaches n =
-    let P = plan.geometry.block in
-    let B = plan.index_blocks in
-    let same : f.geometry ≡ plan.geometry = geometry ∙ sym h.geometry in
+lies-size index f first plan h geometry within reaches =
     let some = planned-shape index first plan h in
-    let room : 0 < B * P = let k : 1 * P ≤ B * P = mul-le-mul_right P (let e : 1 ≤ B = omega (arith, some.blocks) in e) in omega (arith, k, some.pages) in
-    let small : n % (B * P) < B * P = mod-lt n room in
-    let all : (first + B) * P ≤ f.blocks * P = mul-le-mul_right P (let e : first + B ≤ f.blocks = omega (arith, h.begins, h.blocks, within) in e) in
-    let split : (first + B) * P ≡ first * P + B * P = add-mul first B P in
-    let pages_is : pages f ≡ f.blocks * P = ap (λ g. f.blocks * g.block) same in
-    page_length f (place_at (shape_in first plan) n) reaches (omega (arith, small, all, split, pages_is)) ∙ ap (λ g. g.page) same
+    ring_lengths f plan.geometry first plan.index_blocks reaches (geometry ∙ sym h.geometry) (omega (arith, h.begins, h.blocks, within)) (omega (arith, some.blocks)) (omega (arith, some.pages))
 
 -- rows that are not pending stand before those that are
 pub rows-lost : (table : Table) → sum table.rows.counts + table.pending ≡ length table.entries → (n rows : ℕ) → slice_get table.rows.counts n ≡ Some rows → rows_at (lose table) n rows ≡ rows_at table n rows
@@ -178,7 +148,7 @@ lost-rests f first plan table ring facts image = record {
     waiting = omega arith;
     listed = omega (arith, facts.listed);
     tell = λ k page e. tell-lost plan table facts.counted page.first page.entries (facts.tell k page e);
-    wait = λ j n lt e. absurd (nothing j lt);
+    wait = λ j n lt e. absurd (not-suc-le-zero lt);
     counted = omega (arith, facts.counted, length-take (length table.entries - table.pending) table.entries);
     number = facts.number;
     rows_number = facts.rows_number;
@@ -193,12 +163,6 @@ lost-rests f first plan table ring facts image = record {
     others = image.others;
   };
 }
-  where
-    nothing : (j : ℕ) → j < 0 → ⊥
-    nothing j lt = omega arith
-
-same_model : {a b : model.Ring} → ◌≡◌ {A = Option model.Ring} (Some a) (Some b) → a ≡ b
-same_model e = cc
 
 -- a ring keeps fewer pages than it has
 pub few-kept : (shape : model.Shape) (ring : model.Ring) → model.IsShape shape → model.IsRing shape ring → length ring.counts < shape.blocks * shape.pages
@@ -229,13 +193,6 @@ module _ (shape : model.Shape) (is_shape : model.IsShape shape) (ring last : mod
       older lt k (inr none) = let z : c ≡ 0 = omega (arith, none) in
           subst (λ n. cond (n == 0) None (slice_get firsts (full_pages (take j ring.counts))) ≡ cond (n == 0) None (slice_get (firsts ++ page ∷ []) (full_pages (take j (ring.counts ++ X ∷ []))))) (sym z) refl
 
-      some_count : (c : ℕ) → 0 < c → (c == 0) ≡ false
-      some_count c h = by_test (c == 0) refl
-        where
-          by_test : (b : Bool) → (c == 0) ≡ b → b ≡ false
-          by_test true k = absurd (omega (arith, eqb-true c 0 k, h))
-          by_test false k = refl
-
       by_place : (slice_get ring.counts j ≡ Some c) ⊎ ((j ≡ length ring.counts) × (X ≡ c)) →
           get_or (set items (ring.next % length items) (Some page)) ((model.oldest ring + j) % length items) None ≡ cond (c == 0) None (slice_get (firsts ++ page ∷ []) (full_pages (take j (ring.counts ++ X ∷ []))))
       by_place (inl k) =
@@ -250,7 +207,7 @@ module _ (shape : model.Shape) (is_shape : model.IsShape shape) (ring last : mod
           ∙ (get_or-set_same items (ring.next % length items) (Some page) None within
           ∙ (sym (slice_get-last firsts page)
           ∙ (ap (slice_get (firsts ++ page ∷ [])) (as_many ∙ (sym (full-last ring.counts (X ∷ [])) ∙ ap (λ n. full_pages (take n (ring.counts ++ X ∷ []))) (sym k.0)))
-          ∙ ap (λ (b : Bool). cond b None (slice_get (firsts ++ page ∷ []) (full_pages (take j (ring.counts ++ X ∷ []))))) (sym (some_count c (omega (arith, k.1, some)))))))
+          ∙ ap (λ (b : Bool). cond b None (slice_get (firsts ++ page ∷ []) (full_pages (take j (ring.counts ++ X ∷ []))))) (sym (not_zero c (omega (arith, k.1, some)))))))
 
   pub remembered-last : (i c : ℕ) → slice_get last.counts i ≡ Some c →
       get_or (set items (ring.next % length items) (Some page)) ((model.oldest last + i) % length items) None ≡ cond (c == 0) None (slice_get after (full_pages (take i last.counts)))
@@ -323,8 +280,8 @@ module _ (index : BitmapIndex) (f : FlashState) (first : ℕ) (plan : Plan) (tab
           did = l.did;
           answer = fault-ends l.now.end fault new l.answer;
           counts = l.counts;
-          rests = lost-rests new first plan l.now.state l.left_is.ring l.left_is.facts
-              (to-index first plan (page_at new) sizes (served-shape index first plan h.stands.in_ring.planned) some l.now.state p.now.state l.left_is p.on);
+          rests = lost-rests new first plan l.now.state l.is.state.ring l.is.state.facts
+              (to-index first plan (page_at new) sizes (served-shape index first plan h.stands.in_ring.planned) some l.now.state p.now.state l.is.state p.on);
         }
 
     -- all were done
@@ -338,7 +295,7 @@ module _ (index : BitmapIndex) (f : FlashState) (first : ℕ) (plan : Plan) (tab
         let l = seal-lifts first plan body table h.s h.is rose device (Ok u) new shape h.makes p in
         let all = all-whole l.now.end u new l.answer in
         let whole = seal-whole plan table rose device l.now l.did all.0 in
-        let state : IsStateOf plan (after_seal plan IndexRing table) p.now.state = subst (λ (t : Table). IsStateOf plan t p.now.state) whole l.left_is in
+        let state : IsStateOf plan (after_seal plan IndexRing table) p.now.state = subst (λ (t : Table). IsStateOf plan t p.now.state) whole l.is.state in
         let planned_now = planned-same index now first plan h.stands.in_ring.planned same in
         let last = last_ring_is state in
         let page_is : first_waiting index ≡ table.rows.next - entries_per_page plan = h.stands.waits.first_is ∙ ap (λ n. table.rows.next - n) h.full in
@@ -374,7 +331,7 @@ module _ (index : BitmapIndex) (f : FlashState) (first : ℕ) (plan : Plan) (tab
       where
         last_ring_is : (state : IsStateOf plan (after_seal plan IndexRing table) p.now.state) → state.ring ≡ model.erased (model.sealed (shape_of plan IndexRing) (entries_per_page plan) h.is.ring)
         last_ring_is state =
-            same_model (sym state.facts.ring_is ∙ ap (λ (o : Option model.Ring). option_map model.erased (option_map (model.sealed (shape_of plan IndexRing) (entries_per_page plan)) o)) h.is.facts.ring_is)
+            same_Some _ _ (sym state.facts.ring_is ∙ ap (λ (o : Option model.Ring). option_map model.erased (option_map (model.sealed (shape_of plan IndexRing) (entries_per_page plan)) o)) h.is.facts.ring_is)
 
         oldest_of : (state : IsStateOf plan (after_seal plan IndexRing table) p.now.state) → p.now.state.next - count p.now.state ≡ model.oldest state.ring
         oldest_of state = ap (λ n. p.now.state.next - n) (sym (counted p.now.state.kept)) ∙ ap (λ (r : model.Ring). model.oldest r) (sym state.counts)

@@ -1,36 +1,26 @@
 -- What a scan over a table's index pages counts, in the words of the model.
 use Rattle.std.proofs.Common.{◌≡◌, ◌⊎◌, inl, inr, ℕ, zero, suc, ◌+◌, ◌-◌, ◌<◌, ◌≤◌, Bool, true, false, cond, ◌&&◌, ◌||◌, ◌==◌, nat_le, nat_lt, Option, Some, None, is_some, List, [], ◌∷◌, length, take, drop, refl, sym, ◌∙◌, ap, arith}
-use Rattle.std.proofs.lemmas.Bool.{cases_lt, lt-ltb, leb-true, le-leb, eq-eqb, eqb-true, false_from_ne_true, and_parts}
-use Rattle.std.proofs.lemmas.List.{take_all}
+use Rattle.std.proofs.lemmas.Bool.{cases_lt, lt-ltb, leb-true, le-leb, eq-eqb, false_from_ne_true, and_parts}
+use Rattle.std.proofs.lemmas.List.{take_all, drop_all}
 use Rattle.std.proofs.lemmas.List.Sums.{sum_by-cons}
 use Rattle.std.specs.List.{slice_get, list_any, range_with_len, count_by}
 use Rattle.std.proofs.lemmas.Option.{none-some}
+use Rattle.fl_base.proofs.Tests.{zero_case, one_at_most, one_fewer}
 use Rattle.fl_flash.specs.Flash.{FlashState}
 use Rattle.fl_model.specs.Limits.{is_indexed}
 use Rattle.fl_model.specs.Record.{Plan, entries_per_page}
 use Rattle.fl_model.specs.Table.{Table, full_pages, firsts}
-use Rattle.fl_model.proofs.Lists.{slice_get-some, slice_get-short, drop_none, take_none}
+use Rattle.fl_model.proofs.Lists.{slice_get-some, slice_get-short, drop_none, take_none, drop-at}
 use Rattle.fl_index.specs.declared.index.BitmapIndex.{BitmapIndex}
 use Rattle.fl_index.specs.Looking.{ends_above, unread, is_page, is_looked_at, due}
 use Rattle.fl_index.specs.Memory.{first_in, first_waiting, waiting_in, is_waiting, next_in, oldest_in, per_page, lists, listing_in}
 use Rattle.fl_index.specs.Standing.{Stands}
-use Rattle.fl_index.proofs.Counts.{count-cons, at-most-one}
+use Rattle.fl_index.proofs.Counts.{count-cons}
 use Rattle.fl_model.proofs.FullPages.{full-one, full-void, full-append, full-within}
 use Rattle.fl_index.proofs.Lists.{below-end, firsts-length}
 use Rattle.fl_index.proofs.Held.{listed-first}
 use Rattle.fl_index.proofs.ListingPages.{listing-is}
 use Rattle.fl_index.proofs.LookupsOfTable.{ListingPage, listing-page, listed-indexed, waits-indexed, none-shows, number_old, kept_len, X_is}
-
-drop-at : (i x : ℕ) (xs : List ℕ) → slice_get xs i ≡ Some x → drop i xs ≡ x ∷ drop (suc i) xs
-drop-at i x [] e = absurd (none-some x e)
-drop-at zero x (y ∷ xs) e = let same : y ≡ x = cc in ap (λ z. z ∷ xs) same
-drop-at (suc i) x (y ∷ xs) e = drop-at i x xs e
-
-pub drop-past : (i : ℕ) (xs : List ℕ) → length xs ≤ i → drop i xs ≡ []
-drop-past zero [] h = refl
-drop-past zero (x ∷ xs) h = absurd (omega (arith, h))
-drop-past (suc i) [] h = refl
-drop-past (suc i) (x ∷ xs) h = drop-past i xs (omega (arith, h))
 
 take-at : (i x : ℕ) (xs : List ℕ) → slice_get xs i ≡ Some x → full_pages (take (suc i) xs) ≡ full_pages (take i xs) + full_pages (x ∷ [])
 take-at i x [] e = absurd (none-some x e)
@@ -41,9 +31,6 @@ take-at zero x (y ∷ xs) e =
 take-at (suc i) x (y ∷ xs) e =
     let others = take-at i x xs e in
     omega (arith, others, full-append (y ∷ []) (take (suc i) xs), full-append (y ∷ []) (take i xs))
-
-zero-case : (c : ℕ) → 0 < c → (o : Option ℕ) → cond (c == 0) None o ≡ o
-zero-case c some o = ap (λ b. cond b None o) (false_from_ne_true (c == 0) (λ e. let z = eqb-true c 0 e in omega (arith, z, some)))
 
 module _ (t : BitmapIndex) (f : FlashState) (first : ℕ) (plan : Plan) (table : Table) (stands : Stands t f first plan table) where
   abbrev counts : List ℕ
@@ -75,12 +62,12 @@ module _ (t : BitmapIndex) (f : FlashState) (first : ℕ) (plan : Plan) (table :
       let others = unread-over number n (suc i) (omega (arith, is)) in
       let next : oldest_in t + i + 1 ≡ oldest_in t + suc i = omega arith in
       let moved = ap (λ a. count_by (λ k. ends_above (per_page t) number (first_in t k)) (range_with_len a n)) next in
-      let split = ap full_pages (drop-at i at.0 counts at.1) ∙ full-append (at.0 ∷ []) (drop (suc i) counts) in
+      let split = ap full_pages (drop-at counts i at.0 at.1) ∙ full-append (at.0 ∷ []) (drop (suc i) counts) in
       let here = by_count at.0 at.1 (cases_lt 0 at.0) in
       omega (arith, count-cons (λ k. ends_above (per_page t) number (first_in t k)) n (oldest_in t + i), others, moved, split, here)
     where
       by_count : (c : ℕ) → slice_get counts i ≡ Some c → (0 < c) ⊎ (c ≤ 0) → cond (ends_above (per_page t) number (first_in t (oldest_in t + i))) 1 0 ≤ full_pages (c ∷ [])
-      by_count c e (inl some) = let one = full-one c some in let few = at-most-one (ends_above (per_page t) number (first_in t (oldest_in t + i))) in omega (arith, one, few)
+      by_count c e (inl some) = let one = full-one c some in let few = one_at_most (ends_above (per_page t) number (first_in t (oldest_in t + i))) in omega (arith, one, few)
       by_count c e (inr none) =
           let z : c ≡ 0 = omega (arith, none) in
           let void : first_in t (oldest_in t + i) ≡ None = memory i c e ∙ ap (λ k. cond (k == 0) None (slice_get (firsts table) (full_pages (take i counts)))) z in
@@ -121,7 +108,7 @@ module _ (t : BitmapIndex) (f : FlashState) (first : ℕ) (plan : Plan) (table :
         count_by q (drop (full_pages (take i counts)) (firsts table)) ≤ count_by (λ k. list_any (is_looked_at t k) numbers) (range_with_len (oldest_in t + i) n)
     due-over zero i is =
         let all : full_pages (take i counts) ≡ full_pages counts = ap full_pages (take_all i counts (omega (arith, is))) in
-        let none : count_by q (drop (full_pages (take i counts)) (firsts table)) ≡ 0 = ap (count_by q) (drop-past (full_pages (take i counts)) (firsts table) (omega (arith, all, firsts-length table.index_pages, stands.in_ring.facts.index_each))) in
+        let none : count_by q (drop (full_pages (take i counts)) (firsts table)) ≡ 0 = ap (count_by q) (drop_all (full_pages (take i counts)) (firsts table) (omega (arith, all, firsts-length table.index_pages, stands.in_ring.facts.index_each))) in
         omega (arith, none)
     due-over (suc n) i is =
         let at = slice_get-some counts i (omega (arith, is)) in
@@ -144,16 +131,12 @@ module _ (t : BitmapIndex) (f : FlashState) (first : ℕ) (plan : Plan) (table :
             let more : full_pages (take (suc i) counts) ≡ suc (full_pages (take i counts)) = omega (arith, take-at i c counts e, one) in
             let within = full-within counts i c (slice_get-short counts i c e) e some in
             let found = slice_get-some (firsts table) (full_pages (take i counts)) (omega (arith, within, firsts-length table.index_pages, stands.in_ring.facts.index_each)) in
-            let split = ap (count_by q) (drop-at (full_pages (take i counts)) found.0 (firsts table) found.1) ∙ sum_by-cons (λ x. cond (q x) 1 0) found.0 (drop (suc (full_pages (take i counts))) (firsts table)) in
+            let split = ap (count_by q) (drop-at (firsts table) (full_pages (take i counts)) found.0 found.1) ∙ sum_by-cons (λ x. cond (q x) 1 0) found.0 (drop (suc (full_pages (take i counts))) (firsts table)) in
             let left = ap (λ k. count_by q (drop k (firsts table))) more in
             let kept : oldest_in t + i < next_in t = omega (arith, slice_get-short counts i c e, kept_len t f first plan table stands) in
-            let is_first : first_in t (oldest_in t + i) ≡ Some found.0 = memory i c e ∙ (zero-case c some (slice_get (firsts table) (full_pages (take i counts))) ∙ found.1) in
-            let here = fewer (q found.0) (list_any (is_looked_at t (oldest_in t + i)) numbers) (looked (oldest_in t + i) found.0 (omega arith) kept is_first) in
+            let is_first : first_in t (oldest_in t + i) ≡ Some found.0 = memory i c e ∙ (zero_case c some (slice_get (firsts table) (full_pages (take i counts))) ∙ found.1) in
+            let here = one_fewer (q found.0) (list_any (is_looked_at t (oldest_in t + i)) numbers) (looked (oldest_in t + i) found.0 (omega arith) kept is_first) in
             omega (arith, others, moved, split, left, here, count-cons (λ k. list_any (is_looked_at t k) numbers) n (oldest_in t + i))
-          where
-            fewer : (a b : Bool) → (a ≡ true → b ≡ true) → cond a 1 0 ≤ cond b 1 0
-            fewer true b f = let e : cond {A = ℕ} b 1 0 ≡ 1 = ap (λ x. cond {A = ℕ} x 1 0) (f refl) in omega (arith, e)
-            fewer false b f = omega arith
 
     pub due-firsts : count_by q (firsts table) ≤ due t numbers (oldest_in t)
     due-firsts =

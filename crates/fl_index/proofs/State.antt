@@ -1,8 +1,6 @@
 -- The index ring of a table as a list of bodies.
-use Rattle.std.proofs.Common.{◌≡◌, ℕ, zero, suc, ◌+◌, ◌-◌, ◌*◌, ◌%◌, ◌<◌, ◌⊎◌, inl, inr, Option, Some, None, IfSome, List, [], ◌∷◌, ◌++◌, length, take, map, replicate, get_or, refl, sym, ◌∙◌, ap, subst, arith, length-append}
-use Rattle.std.proofs.lemmas.Nat.Gcd.{mod-eq-zero_of_dvd}
+use Rattle.std.proofs.Common.{◌≡◌, ℕ, zero, suc, ◌+◌, ◌-◌, ◌*◌, ◌<◌, ◌⊎◌, inl, inr, Option, Some, None, IfSome, List, [], ◌∷◌, ◌++◌, length, take, map, replicate, get_or, refl, sym, ◌∙◌, ap, subst, arith, length-append}
 use Rattle.std.specs.List.{slice_get, AllByRecursion}
-use Rattle.std.proofs.lemmas.Bool.{and_from}
 use Rattle.std.proofs.lemmas.Option.{none-some}
 use Rattle.fl_model.specs.Record.{Plan, entries_per_page}
 use Rattle.fl_model.specs.Ring as model
@@ -10,8 +8,9 @@ use Rattle.fl_model.specs.Table.{Table, IndexRing, shape_of, full_pages}
 use Rattle.fl_model.specs.Layout.{IndexPage, committed, index_body}
 use Rattle.fl_model.specs.Image.{IsRingImage, HoldsEntries}
 use Rattle.fl_model.proofs.Lists.{each-at, slice_get-some}
-use Rattle.fl_ring.specs.Counts.{page_count, ring_counts, model_shape, HoldsSome}
-use Rattle.fl_ring.specs.Ring.{Shape, RingState, IsShape, IsRing, OnRing, count, oldest, place}
+use Rattle.fl_ring.specs.Counts.{page_count, ring_counts, HoldsSome}
+use Rattle.fl_ring.specs.Ring.{Shape, RingState, IsShape, OnRing, count, oldest, place}
+use Rattle.fl_ring.proofs.Counts.{ring_from}
 use Rattle.fl_ring.proofs.Images.{on_from_image, image_from_on}
 use Rattle.fl_index.specs.Standing.{HasIndex, HoldsIndex, bytes_in}
 
@@ -87,18 +86,6 @@ committed-body size page body len is =
     front [] = refl
     front (b ∷ bs) = ap (λ (xs : List ℕ). b ∷ xs) (front bs)
 
--- the facts of the model's ring are those of its state
-pub ring-from : (r : Shape) (s : RingState) (counts : List ℕ) → length counts ≡ count s → model.IsRing (model_shape r) (record { counts = counts; next = s.next; torn = s.torn; dirty = s.dirty }) → IsRing r s
-ring-from r s counts len h = record {
-  not_negative = omega (arith, len, h.not_negative);
-  whole_blocks = ap (λ n. (s.next - n) % r.per_block) (sym len) ∙ mod-eq-zero_of_dvd r.per_block h.whole_blocks;
-  whole_rounds = λ few. ap (λ n. (s.next - n) % (r.blocks * r.per_block)) (sym len) ∙ mod-eq-zero_of_dvd (r.blocks * r.per_block) (h.whole_rounds (omega (arith, len, few)));
-  most = omega (arith, len, h.kept);
-  most_ahead = λ e. let k = h.kept_at_end e in omega (arith, len, k);
-  dirty_when = λ d. let k = h.dirty_at_end d in (k.0, omega (arith, len, k.1));
-  not_both = λ t d. h.not_both (and_from s.torn s.dirty t d);
-}
-
 -- What holds of an index page by other names of the same things.
 pub holds-moved : (plan : Plan) (t t' : Table) (ring ring' : model.Ring) (i i' count : ℕ) (page : List ℕ) → model.oldest ring' + i' ≡ model.oldest ring + i →
     ((p : IndexPage) → slice_get t.index_pages (full_pages (take i ring.counts)) ≡ Some p → slice_get t'.index_pages (full_pages (take i' ring'.counts)) ≡ Some p) →
@@ -143,7 +130,7 @@ module _ (first : ℕ) (plan : Plan) (page : ℕ → List ℕ) (sizes : HaveSize
     s = index_state first plan page ring;
     is = record { ring = ring; facts = facts; counts = counts; bodies = bodies };
     on = on_from_image (shape_in first plan) page (index_state first plan page ring) (full_count plan) sizes shape (has-some plan some (index_state first plan page ring)) (HoldsEntries plan table ring)
-        (ring-from (shape_in first plan) (index_state first plan page ring) ring.counts (sym len) facts.is_ring)
+        (ring_from (shape_in first plan) (index_state first plan page ring) ring.counts (sym len) facts.is_ring)
         (λ i body at h. page_is i body at h)
         (subst (λ (r : model.Ring). IsRingImage (shape_of plan IndexRing) r (bytes_in page first plan) (HoldsEntries plan table ring)) counts image);
   }

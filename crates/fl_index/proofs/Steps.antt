@@ -1,7 +1,7 @@
 -- What the steps of a ring make of the index ring, as a list of bodies and as a table.
-use Rattle.std.proofs.Common.{◌≡◌, ℕ, suc, ◌+◌, ◌-◌, ◌*◌, ◌%◌, ◌^◌, ◌<◌, ◌≤◌, ◌⊎◌, inl, inr, Bool, true, false, cond, ◌==◌, Option, Some, None, List, [], ◌∷◌, ◌++◌, length, take, drop, get_or, refl, sym, ◌∙◌, ap, subst, arith, length-append, length-drop}
+use Rattle.std.proofs.Common.{◌≡◌, ℕ, suc, ◌+◌, ◌-◌, ◌*◌, ◌%◌, ◌^◌, ◌<◌, ◌≤◌, ◌⊎◌, inl, inr, Bool, true, false, cond, ◌==◌, Option, Some, None, List, [], ◌∷◌, ◌++◌, length, take, drop, get_or, refl, sym, ◌∙◌, ap, subst, arith, length-append, length-drop, not-suc-le-zero}
 use Rattle.std.proofs.lemmas.Bool.{ltb-true, cases_lt}
-use Rattle.std.proofs.lemmas.List.{get_or-drop}
+use Rattle.std.proofs.lemmas.List.{get_or-drop, drop-append-le, get_or_append_left}
 use Rattle.std.proofs.Math.Nat.{mul-le-mul_right}
 use Rattle.std.specs.List.{slice_get, AllByRecursion}
 use Rattle.fl_model.specs.Record.{Plan, entries_per_page}
@@ -17,7 +17,7 @@ use Rattle.fl_ring.specs.Ring.{RingState, count, is_due, is_due_at, appended, tr
 use Rattle.fl_ring.proofs.Counts.{counts_sealed, counts_voided}
 use Rattle.fl_index.specs.Standing.{HasIndex}
 use Rattle.fl_model.proofs.FullPages.{full-append, full-pushed, full-dropped, full-split}
-use Rattle.fl_index.proofs.Lists.{drop-front, firsts_of, firsts-drop, end_after, end-drop, Ascend, ascend-drop, get_or-left, get_or-end, as-many-drop}
+use Rattle.fl_index.proofs.Lists.{firsts_of, firsts-drop, end_after, end-drop, Ascend, ascend-drop, get_or-end, as-many-drop}
 use Rattle.fl_index.proofs.State.{shape_in, full_count, IsStateOf, holds-moved}
 
 -- each body lists what the table's index does
@@ -74,7 +74,7 @@ module _ (first : ℕ) (plan : Plan) (shape : model.IsShape (shape_of plan Index
           (omega (arith, len, is.facts.is_ring.not_negative))
           (λ f e. ap (slice_get (table.index_pages ++ more)) (full-pushed ring.counts (c ∷ []) i (omega (arith, less, state_len)))
           ∙ (slice_get-left table.index_pages more (full_pages (take i ring.counts)) (slice_get-short table.index_pages (full_pages (take i ring.counts)) f e) ∙ e))
-          (is.bodies i body less (sym (get_or-left s.kept (x ∷ []) i None less) ∙ at))
+          (is.bodies i body less (sym (get_or_append_left s.kept (x ∷ []) None i less) ∙ at))
       by_place (inr last) =
           let e : i ≡ count s = omega (arith, lt, last, length-append s.kept (x ∷ [])) in
           let here : x ≡ Some body = sym (get_or-end s.kept x None) ∙ (ap (λ n. get_or (s.kept ++ x ∷ []) n None) (sym e) ∙ at) in
@@ -100,9 +100,6 @@ module _ (first : ℕ) (plan : Plan) (shape : model.IsShape (shape_of plan Index
   untorn true = refl
   untorn false = refl
 
-  nothing : (j : ℕ) → j < 0 → ⊥
-  nothing j lt = omega arith
-
   counts_each : AllByRecursion (λ count. (count ≡ 0) ⊎ (count ≡ entries_per_page plan)) (ring.counts ++ c ∷ [])
   counts_each = each-push (λ count. (count ≡ 0) ⊎ (count ≡ entries_per_page plan)) ring.counts c is.facts.counts sizes
 
@@ -114,7 +111,7 @@ module _ (first : ℕ) (plan : Plan) (shape : model.IsShape (shape_of plan Index
   gone e =
       let l = long (shape_of plan IndexRing) ring c shape e in
       let k = full-pushed ring.counts (c ∷ []) plan.geometry.block l in
-      sym (drop-front (full_pages (take plan.geometry.block (ring.counts ++ c ∷ []))) table.index_pages more (omega (arith, k, is.facts.index_each, full-split plan.geometry.block ring.counts)))
+      sym (drop-append-le (full_pages (take plan.geometry.block (ring.counts ++ c ∷ []))) table.index_pages more (omega (arith, k, is.facts.index_each, full-split plan.geometry.block ring.counts)))
 
   counts_are : last_ring ≡ ring_counts (full_count plan) (trimmed (shape_in first plan) (appended s x))
   counts_are = by_page x c_is
@@ -148,7 +145,7 @@ module _ (first : ℕ) (plan : Plan) (shape : model.IsShape (shape_of plan Index
             omega (arith, g, d, end-drop (entries_per_page plan) k (firsts_of (table.index_pages ++ more)), ends);
         index_fit = subst (AllByRecursion (λ (p : IndexPage). length p.entries ≡ entries_per_page plan)) (sym (gone e)) (each-drop (λ (p : IndexPage). length p.entries ≡ entries_per_page plan) k (table.index_pages ++ more) fit);
         tell = λ n p at. tell (k + n) p (sym (slice_get-drop k (table.index_pages ++ more) n) ∙ (ap (λ (fs : List IndexPage). slice_get fs n) (sym (gone e)) ∙ at));
-        wait = λ j n lt at. absurd (nothing j lt);
+        wait = λ j n lt at. absurd (not-suc-le-zero lt);
         counted = is.facts.counted;
         number = omega (arith, left);
         rows_number = is.facts.rows_number;
@@ -163,7 +160,7 @@ module _ (first : ℕ) (plan : Plan) (shape : model.IsShape (shape_of plan Index
     listed = let g = ap (λ (fs : List IndexPage). end_after (entries_per_page plan) (firsts_of (fs ++ more))) (drop_none table.index_pages) in omega (arith, g, ends);
     index_fit = subst (λ (fs : List IndexPage). AllByRecursion (λ (p : IndexPage). length p.entries ≡ entries_per_page plan) (fs ++ more)) (sym (drop_none table.index_pages)) fit;
     tell = λ n p at. tell n p (ap (λ (fs : List IndexPage). slice_get (fs ++ more) n) (sym (drop_none table.index_pages)) ∙ at);
-    wait = λ j n lt at. absurd (nothing j lt);
+    wait = λ j n lt at. absurd (not-suc-le-zero lt);
     counted = is.facts.counted;
     number = omega (arith, left);
     rows_number = is.facts.rows_number;

@@ -5,7 +5,7 @@ use borrow.Rule.Slice.PartMut.{put_mid}
 use Rattle.std.specs.List.{slice_get, flat_map}
 use Rattle.std.proofs.lemmas.Bool.{eqb-true}
 use Rattle.std.proofs.lemmas.Grind.{flat_map-append}
-use Rattle.std.proofs.lemmas.List.{take_at, take_all, drop-take, drop-drop, drop-append-le, take-append-drop, take-append-le, length-take-le, append-nil}
+use Rattle.std.proofs.lemmas.List.{take_at, take_all, drop-take, drop-drop, drop-append-le, take-append-drop, take-append-le, length-take-le, append-nil, take-take, drop_at}
 use Rattle.std.proofs.lemmas.Nat.{or_lt}
 use Rattle.std.proofs.Math.Nat.{add-mul, mod-eq_of_lt, mul-le-mul_right, one-le-pow}
 use Rattle.std.proofs.Math.Pow.{pow-lt}
@@ -65,16 +65,6 @@ width-le22 form few = by_full form.full
 abbrev pub InFront : EntryForm → List ℕ → List IndexEntry → Type 0
 InFront form xs entries = take (length entries * form_len form) xs ≡ flat_map (bytes_of form) entries
 
-take-within : (m n : ℕ) (ys : List ℕ) → m ≤ n → take m (take n ys) ≡ take m ys
-take-within zero n ys h = take_none (take n ys) ∙ sym (take_none ys)
-take-within (suc m) zero ys h = absurd (omega arith)
-take-within (suc m) (suc n) [] h = refl
-take-within (suc m) (suc n) (y ∷ ys) h = ap (λ (zs : List ℕ). y ∷ zs) (take-within m n ys (omega arith))
-
-drop-front : (as' bs : List ℕ) (n : ℕ) → length as' ≡ n → drop n (as' ++ bs) ≡ bs
-drop-front [] bs n h = ap (λ k. drop k bs) (sym h) ∙ drop_none bs
-drop-front (a ∷ as') bs n h = ap (λ k. drop k (a ∷ as' ++ bs)) (sym h) ∙ drop-front as' bs (length as') refl
-
 one_more : (n w : ℕ) → suc n * w ≡ w + n * w
 one_more n w = let e : suc n ≡ 1 + n = omega arith in ap (λ k. k * w) e ∙ (add-mul 1 n w ∙ omega arith)
 
@@ -87,13 +77,13 @@ module _ (form : EntryForm) (xs : List ℕ) (x : IndexEntry) (entries : List Ind
 
   first-in : take (form_len form) xs ≡ bytes_of form x
   first-in =
-      sym (take-within (form_len form) (form_len form + length entries * form_len form) xs (omega arith))
+      sym (take-take (form_len form) (form_len form + length entries * form_len form) xs (omega arith))
       ∙ (ap (take (form_len form)) all ∙ take_at (bytes_of form x) (flat_map (bytes_of form) entries) (form_len form) (length-entry form x))
 
   others-in : InFront form (drop (form_len form) xs) entries
   others-in =
       sym (drop-take (form_len form) (length entries * form_len form) xs)
-      ∙ (ap (drop (form_len form)) all ∙ drop-front (bytes_of form x) (flat_map (bytes_of form) entries) (form_len form) (length-entry form x))
+      ∙ (ap (drop (form_len form)) all ∙ drop_at (bytes_of form x) (flat_map (bytes_of form) entries) (form_len form) (length-entry form x))
 
 -- the j-th of them
 pub entry-at : (form : EntryForm) (xs : List ℕ) (entries : List IndexEntry) (j : ℕ) (b : IndexEntry) → InFront form xs entries → slice_get entries j ≡ Some b → take (form_len form) (drop (j * form_len form) xs) ≡ bytes_of form b
@@ -108,7 +98,7 @@ entry-at form xs (x ∷ entries) (suc j) b h e =
 pub read-at : (form : EntryForm) (page : List ℕ) (entries : List IndexEntry) (j : ℕ) (b : IndexEntry) → InFront form (drop 16 page) entries → slice_get entries j ≡ Some b → bitmap_at form page j ≡ b.bitmap % 256 ^ form.width
 read-at form page entries j b h e =
     ap (λ (xs : List ℕ). number_of (take form.width xs)) (sym (drop-drop (j * form_len form) 16 page))
-    ∙ (ap number_of (sym (take-within form.width (form_len form) (drop (j * form_len form) (drop 16 page)) (width-le form))
+    ∙ (ap number_of (sym (take-take form.width (form_len form) (drop (j * form_len form) (drop 16 page)) (width-le form))
     ∙ (ap (take form.width) (entry-at form (drop 16 page) entries j b h e)
     ∙ take_at (le form.width b.bitmap) (if form.full then full_bytes b.full else []) form.width (length-le form.width b.bitmap)))
     ∙ number_of-low form.width b.bitmap)
@@ -121,7 +111,7 @@ part-at form page entries j b at m h e room =
     let whole : take w (drop (16 + j * w) page) ≡ bytes_of form b = ap (take w) (sym (drop-drop (j * w) 16 page)) ∙ entry-at form (drop 16 page) entries j b h e in
     let n : w ≡ at + (w - at) = omega (arith, room) in
     ap (λ (xs : List ℕ). take m xs) (let k : 16 + j * w + at ≡ 16 + j * w + at = refl in sym (drop-drop at (16 + j * w) page))
-    ∙ (sym (take-within m (w - at) (drop at (drop (16 + j * w) page)) (omega (arith, room)))
+    ∙ (sym (take-take m (w - at) (drop at (drop (16 + j * w) page)) (omega (arith, room)))
     ∙ ap (take m) (sym (drop-take at (w - at) (drop (16 + j * w) page)) ∙ (ap (λ k. drop at (take k (drop (16 + j * w) page))) (sym n) ∙ ap (drop at) whole)))
 
 -- what a full entry tells beside its bitmap, where it is read
@@ -133,18 +123,18 @@ full-at form page entries j b h e full =
     let k = le 8 b.full.first_key in
     let c = le 2 b.full.count in
     let f = le 4 b.full.blob_end in
-    let fields : drop form.width (bytes_of form b) ≡ full_bytes b.full = ap (drop form.width) bytes ∙ drop-front (le form.width b.bitmap) (full_bytes b.full) form.width w in
+    let fields : drop form.width (bytes_of form b) ≡ full_bytes b.full = ap (drop form.width) bytes ∙ drop_at (le form.width b.bitmap) (full_bytes b.full) form.width w in
     let later : (n : ℕ) → drop (form.width + n) (bytes_of form b) ≡ drop n (full_bytes b.full) = λ n. sym (drop-drop n form.width (bytes_of form b)) ∙ ap (drop n) fields in
     let key : take 8 (drop (16 + j * form_len form + form.width) page) ≡ k =
     part-at form page entries j b form.width 8 h e (omega (arith, long)) ∙ (ap (take 8) (fields ∙ append_assoc k c f) ∙ take_at k (c ++ f) 8 (length-le 8 b.full.first_key)) in
     let count : take 2 (drop (16 + j * form_len form + form.width + 8) page) ≡ c =
     ap (λ n. take 2 (drop n page)) (let s : 16 + j * form_len form + form.width + 8 ≡ 16 + j * form_len form + (form.width + 8) = omega arith in s)
     ∙ (part-at form page entries j b (form.width + 8) 2 h e (omega (arith, long))
-    ∙ (ap (take 2) (later 8 ∙ (ap (drop 8) (append_assoc k c f) ∙ drop-front k (c ++ f) 8 (length-le 8 b.full.first_key))) ∙ take_at c f 2 (length-le 2 b.full.count))) in
+    ∙ (ap (take 2) (later 8 ∙ (ap (drop 8) (append_assoc k c f) ∙ drop_at k (c ++ f) 8 (length-le 8 b.full.first_key))) ∙ take_at c f 2 (length-le 2 b.full.count))) in
     let end : take 4 (drop (16 + j * form_len form + form.width + 10) page) ≡ f =
     ap (λ n. take 4 (drop n page)) (let s : 16 + j * form_len form + form.width + 10 ≡ 16 + j * form_len form + (form.width + 10) = omega arith in s)
     ∙ (part-at form page entries j b (form.width + 10) 4 h e (omega (arith, long))
-    ∙ (ap (take 4) (later 10 ∙ drop-front (k ++ c) f 10 (omega (arith, length-append k c, length-le 8 b.full.first_key, length-le 2 b.full.count))) ∙ take_all 4 f (omega (arith, length-le 4 b.full.blob_end)))) in
+    ∙ (ap (take 4) (later 10 ∙ drop_at (k ++ c) f 10 (omega (arith, length-append k c, length-le 8 b.full.first_key, length-le 2 b.full.count))) ∙ take_all 4 f (omega (arith, length-le 4 b.full.blob_end)))) in
     rw (key, count, end, number_of-low 8 b.full.first_key, number_of-low 2 b.full.count, number_of-low 4 b.full.blob_end) refl
 
 -- the low bytes of a number that were copied to a part
@@ -179,11 +169,15 @@ other-kept form n j page b lt room =
     front : (k : ℕ) → k ≤ 16 + n * form_len form → take k (splice page (16 + n * form_len form) (bytes_of form b)) ≡ take k page
     front k le_at =
         take-append-le k (take (16 + n * form_len form) page) (bytes_of form b ++ drop (16 + n * form_len form + length (bytes_of form b)) page) (omega (arith, le_at, length-take-le (16 + n * form_len form) page (omega (arith, room))))
-        ∙ take-within k (16 + n * form_len form) page le_at
+        ∙ take-take k (16 + n * form_len form) page le_at
 
 -- the form of the entries of a plan
 abbrev pub plan_form : Plan → EntryForm
 plan_form plan = record { width = plan.bits / 8; full = plan.full_index }
+
+pub header-length : (a b c : ℕ) → length (header_bytes a b c) ≡ 16
+header-length a b c =
+    omega (arith, length-append (le 4 a ++ le 4 b ++ le 2 c) (le 6 0), length-append (le 4 a ++ le 4 b) (le 2 c), length-append (le 4 a) (le 4 b), length-le 4 a, length-le 4 b, length-le 2 c, length-le 6 0)
 
 -- the body with a full list of entries, whose header was written
 pub body-is : (plan : Plan) (number first : ℕ) (body : List ℕ) (entries : List IndexEntry) (n : ℕ) → length entries ≡ n → length body + 8 ≡ plan.geometry.page → 16 + n * entry_len plan ≤ length body →
@@ -194,7 +188,7 @@ body-is plan number first body entries n len size room h blank =
     let w = entry_len plan in
     let header = header_bytes number first n in
     let flat = flat_map (entry_bytes plan) entries in
-    let head_len : length (header_bytes number first n) ≡ 16 = header_length number first n in
+    let head_len : length (header_bytes number first n) ≡ 16 = header-length number first n in
     let flat_len : length flat ≡ n * w = ap length (sym h) ∙ (length-take-le (length entries * w) (drop 16 body) (let e = ap (λ m. m * w) len in omega (arith, e, room, length-drop 16 body)) ∙ ap (λ m. m * w) len) in
     let rest : drop (n * w) (drop 16 body) ≡ replicate (plan.geometry.page - 8 - length (header ++ flat)) 255 =
     drop-drop (n * w) 16 body ∙ (blank
@@ -204,10 +198,6 @@ body-is plan number first body entries n len size room h blank =
     ∙ (ap (λ (xs : List ℕ). header ++ xs) (sym (take-append-drop (n * w) (drop 16 body)) ∙ (ap (λ (xs : List ℕ). xs ++ drop (n * w) (drop 16 body)) (ap (λ m. take (m * w) (drop 16 body)) (sym len) ∙ h) ∙ ap (λ (xs : List ℕ). flat ++ xs) rest))
     ∙ (sym (append_assoc header flat (replicate (plan.geometry.page - 8 - length (header ++ flat)) 255))
     ∙ ap (λ m. (header_bytes number first m ++ flat) ++ replicate (plan.geometry.page - 8 - length (header_bytes number first m ++ flat)) 255) (sym len))))
-  where
-    header_length : (a b c : ℕ) → length (header_bytes a b c) ≡ 16
-    header_length a b c =
-        omega (arith, length-append (le 4 a ++ le 4 b ++ le 2 c) (le 6 0), length-append (le 4 a ++ le 4 b) (le 2 c), length-append (le 4 a) (le 4 b), length-le 4 a, length-le 4 b, length-le 2 c, length-le 6 0)
 
 onto-small : (plan : Plan) (n : ℕ) → ((v : ℤ) → bucket_of plan v < n) → (b : ℕ) (es : List Entry) → b < 2 ^ n → onto plan b es < 2 ^ n
 onto-small plan n within b [] lt = lt
@@ -305,10 +295,6 @@ written-back n old new is e same len =
 
 pub entry-length : (form : EntryForm) (n : ℕ) (page : List ℕ) (b : IndexEntry) → 16 + n * form_len form + form_len form ≤ length page → length (splice page (16 + n * form_len form) (bytes_of form b)) ≡ length page
 entry-length form n page b room = length-splice page (16 + n * form_len form) (bytes_of form b) (omega (arith, room, length-entry form b))
-
-pub header-length : (a b c : ℕ) → length (header_bytes a b c) ≡ 16
-header-length a b c =
-    omega (arith, length-append (le 4 a ++ le 4 b ++ le 2 c) (le 6 0), length-append (le 4 a ++ le 4 b) (le 2 c), length-append (le 4 a) (le 4 b), length-le 4 a, length-le 4 b, length-le 2 c, length-le 6 0)
 
 pub headed-length : (a b c : ℕ) (page : List ℕ) → 16 ≤ length page → length (splice page 0 (header_bytes a b c)) ≡ length page
 headed-length a b c page room = length-splice page 0 (header_bytes a b c) (omega (arith, room, header-length a b c))

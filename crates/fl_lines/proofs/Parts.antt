@@ -7,6 +7,7 @@ use Rattle.std.proofs.lemmas.Bool.{cases_lt, lt-ltb, le-ltb, ne_eqb}
 use Rattle.std.proofs.Math.Seq.{take-append-add}
 use Rattle.fl_words.specs.Grammar.{no_empty_last, lines_of}
 use Rattle.fl_words.specs.Parts.{line_parts}
+use Rattle.fl_words.proofs.Lines.{no_empty-last}
 use Rattle.fl_lines.specs.Texts.{all_but_last, whole_lines, rest_of, long_rest, lines_within}
 
 -- a text without a newline
@@ -29,10 +30,6 @@ but-last line (part ∷ parts) h = refl
 last-of : (line : List ℕ) (parts : List (List ℕ)) → 0 < length parts → last_or None (line ∷ parts) ≡ last_or None parts
 last-of line [] h = absurd (omega arith)
 last-of line (part ∷ parts) h = refl
-
-no_empty-last : (line : List ℕ) (parts : List (List ℕ)) → 0 < length parts → no_empty_last (line ∷ parts) ≡ line ∷ no_empty_last parts
-no_empty-last line [] h = absurd (omega arith)
-no_empty-last line (part ∷ parts) h = refl
 
 pub whole-line : (line rest : List ℕ) → OneLine line → whole_lines (line ++ 10 ∷ rest) ≡ line ∷ whole_lines rest
 whole-line line rest h = ap all_but_last (parts-line line rest h) ∙ but-last line (line_parts rest) (parts-some rest)

@@ -1,17 +1,18 @@
 -- A configuration that is accepted has room: blocks of two pages at least, and three blocks of rows. And it is a small one.
-use Rattle.std.proofs.Common.{◌≡◌, ℕ, zero, suc, ◌+◌, ◌≤◌, Bool, true, false, IsTrue, cond, not, ◌&&◌, ◌||◌, nat_lt, ◌==◌, Option, Some, None, IfSome, is_some, unwrap_or, Result, Ok, Err, List, [], ◌∷◌, ◌++◌, refl, sym, ◌∙◌, ap, subst, ◌*◌, sum_by, arith}
-use Rattle.std.specs.List.{AllByRecursion, slice_get}
-use Rattle.std.proofs.lemmas.Bool.{ltb-false, false≢true}
+use Rattle.std.proofs.Common.{◌≡◌, ℕ, ◌+◌, ◌≤◌, Bool, false, IsTrue, not, ◌&&◌, ◌||◌, nat_lt, ◌==◌, Option, Some, None, IfSome, is_some, unwrap_or, Result, Ok, Err, List, [], ◌∷◌, ◌++◌, refl, sym, ◌∙◌, ap, subst, ◌*◌, sum_by, arith}
+use Rattle.std.specs.List.{AllByRecursion}
+use Rattle.std.proofs.lemmas.Bool.{ltb-false, false≢true, or_parts}
 use Rattle.std.proofs.lemmas.Bool.Decides.{nat_tests}
 use Rattle.std.proofs.lemmas.List.Sums.{sum_by-append}
 use Rattle.std.proofs.Math.Nat.{add-mul}
-use Rattle.std.proofs.lemmas.Option.{none-some, same_Some}
 use Rattle.fl_base.specs.declared.types.Geometry.{Geometry}
 use Rattle.fl_model.specs.Record.{Plan, Config, blocks_of}
+use Rattle.fl_model.proofs.Lists.{each-push}
 use Rattle.fl_words.specs.Command as command
 use Rattle.fl_words.specs.Command.{Command, TableLine}
 use Rattle.fl_words.specs.Grammar.{LineFault, command_of}
 use Rattle.fl_words.specs.Config.{Lines, no_lines, ConfigFault, configured, with_device, with_table_line, unless, first_fault, device_faults, table_faults, plan_of, whole, whole_of, too_large, bad_log, BlockSize, DataBlocks, ErrorBound, DeviceTooLarge, LogBlocks, LogVar}
+use Rattle.fl_words.proofs.Tests.{test-passes}
 use Rattle.fl_machine.specs.Found.{HasRoom}
 use Rattle.fl_machine.specs.Small.{IsSmallPlan, IsSmall}
 use Rattle.fl_machine.specs.Script.{Start, Ready, Unended, BadLine, BadConfig, start_with, start_config, start_line, start_from, start_of, ended}
@@ -32,42 +33,16 @@ pub record LinesHaveRoom (lines : Lines) : Type 0 where
   pub plans : AllByRecursion HasRoom lines.plans
   pub small : AreSmall lines.device lines.plans
 
--- where no fault applies, no test passes
-pub test_passes : (tests : List (Bool × ConfigFault)) (i : ℕ) (test : Bool × ConfigFault) → first_fault tests ≡ None → slice_get tests i ≡ Some test → test.0 ≡ false
-test_passes [] i test h e = absurd (none-some test e)
-test_passes (t ∷ tests) zero test h e = subst (λ (x : Bool × ConfigFault). x.0 ≡ false) (same_Some t test e) (by_test t.0 h)
-  where
-    by_test : (b : Bool) → cond b (Some t.1) (first_fault tests) ≡ None → b ≡ false
-    by_test true h = cc
-    by_test false h = refl
-test_passes (t ∷ tests) (suc i) test h e = test_passes tests i test (by_test t.0 h) e
-  where
-    by_test : (b : Bool) → cond b (Some t.1) (first_fault tests) ≡ None → first_fault tests ≡ None
-    by_test true h = cc
-    by_test false h = h
-
-or_left : (a b : Bool) → (a || b) ≡ false → a ≡ false
-or_left true b h = cc
-or_left false b h = refl
-
-or_right : (a b : Bool) → (a || b) ≡ false → b ≡ false
-or_right true b h = cc
-or_right false b h = h
-
 unless_ok : (fault : Option ConfigFault) (lines now : Lines) → unless fault lines ≡ Ok now → (fault ≡ None) × (lines ≡ now)
 unless_ok None lines now h = (refl, cc)
 unless_ok (Some fault) lines now h = cc
-
-all-append : (P : Plan → Type 0) (plans : List Plan) (plan : Plan) → AllByRecursion P plans → P plan → AllByRecursion P (plans ++ plan ∷ [])
-all-append P [] plan h k = (k, tt)
-all-append P (p ∷ plans) plan h k = (h.0, all-append P plans plan h.1 k)
 
 device-room : (lines now : Lines) (geometry : Geometry) (before : Option Geometry) → LinesHaveRoom lines → lines.device ≡ before → with_device lines geometry before ≡ Ok now → LinesHaveRoom now
 device-room lines now geometry (Some before) room e h = cc
 device-room lines now geometry None room e h =
     let ok = unless_ok (first_fault (device_faults geometry)) (record lines { device = Some geometry }) now h in
     let test : Bool × ConfigFault = (nat_lt geometry.block 2 || nat_lt 256 geometry.block, BlockSize) in
-    let block : 2 ≤ geometry.block = ltb-false geometry.block 2 (or_left (nat_lt geometry.block 2) (nat_lt 256 geometry.block) (test_passes (device_faults geometry) 1 test ok.0 refl)) in
+    let block : 2 ≤ geometry.block = ltb-false geometry.block 2 (or_parts (nat_lt geometry.block 2) (nat_lt 256 geometry.block) (test-passes (device_faults geometry) 1 test ok.0 refl)).0 in
     subst LinesHaveRoom ok.1 (record { device = block; plans = room.plans; small = subst (λ ps. AreSmall (Some geometry) ps) (sym (subst (λ o. AreSmall o lines.plans) e room.small)) (omega arith, tt) })
 
 -- a table that is accepted is small, and so are all tables with it
@@ -75,14 +50,14 @@ table-small : (lines : Lines) (line : TableLine) (geometry : Geometry) → first
 table-small lines line geometry h small =
     let plan = plan_of geometry line in
     let plans = lines.plans ++ plan ∷ [] in
-    let passes = test_passes (table_faults geometry lines.plans line) in
+    let passes = test-passes (table_faults geometry lines.plans line) in
     let size : Bool × ConfigFault = (too_large geometry plans, DeviceTooLarge) in
-    let few = ltb-false 65536 (sum_by blocks_of plans * geometry.block) (or_left _ (nat_lt 67108864 (sum_by blocks_of plans * geometry.block * geometry.page)) (passes 13 size h refl)) in
+    let few = ltb-false 65536 (sum_by blocks_of plans * geometry.block) (or_parts _ (nat_lt 67108864 (sum_by blocks_of plans * geometry.block * geometry.page)) (passes 13 size h refl)).0 in
     let error : Bool × ConfigFault = (nat_lt 255 line.error, ErrorBound) in
     let own : sum_by blocks_of plans * geometry.block ≡ sum_by blocks_of lines.plans * geometry.block + blocks_of plan * geometry.block =
     ap (λ n. n * geometry.block) (sum_by-append blocks_of lines.plans (plan ∷ []) ∙ ap (λ n. sum_by blocks_of lines.plans + n) (let one : sum_by blocks_of (plan ∷ []) ≡ blocks_of plan = omega arith in one)) ∙ add-mul (sum_by blocks_of lines.plans) (blocks_of plan) geometry.block in (
       few,
-      all-append IsSmallPlan lines.plans plan small (record {
+      each-push IsSmallPlan lines.plans plan small (record {
         pages = omega (arith, few, own);
         error = ltb-false 255 line.error (passes 10 error h refl);
       }),
@@ -91,7 +66,7 @@ table-small lines line geometry h small =
 -- a log has at least three blocks
 log_room : (blocks : Option ℕ) → bad_log blocks ≡ false → IsTrue (nat_lt 0 (unwrap_or blocks 0)) → 3 ≤ unwrap_or blocks 0
 log_room None e h = absurd (false≢true h)
-log_room (Some n) e h = ltb-false n 3 (or_left (nat_lt n 3) (nat_lt 16384 n) e)
+log_room (Some n) e h = ltb-false n 3 (or_parts (nat_lt n 3) (nat_lt 16384 n) e).0
 
 -- .. and there is no variable data beside it
 log_alone : (blocks : Option ℕ) (var : ℕ) → (is_some blocks && not (var == 0)) ≡ false → IsTrue (nat_lt 0 (unwrap_or blocks 0)) → nat_lt 0 var ≡ false
@@ -103,9 +78,9 @@ table-room lines now line None room e h = cc
 table-room lines now line (Some geometry) room e h =
     let ok = unless_ok (first_fault (table_faults geometry lines.plans line)) (record lines { plans = lines.plans ++ plan_of geometry line ∷ [] }) now h in
     let test : Bool × ConfigFault = (nat_lt line.data_blocks 3 || nat_lt 16384 line.data_blocks, DataBlocks) in
-    let blocks : 3 ≤ line.data_blocks = ltb-false line.data_blocks 3 (or_left (nat_lt line.data_blocks 3) (nat_lt 16384 line.data_blocks) (test_passes (table_faults geometry lines.plans line) 5 test ok.0 refl)) in
+    let blocks : 3 ≤ line.data_blocks = ltb-false line.data_blocks 3 (or_parts (nat_lt line.data_blocks 3) (nat_lt 16384 line.data_blocks) (test-passes (table_faults geometry lines.plans line) 5 test ok.0 refl)).0 in
     let pages : 2 ≤ geometry.block = subst (λ (o : Option Geometry). IfSome o (λ g. 2 ≤ g.block)) e room.device in
-    let room_now = all-append HasRoom lines.plans (plan_of geometry line) room.plans (record { blocks = blocks; pages = pages; log_blocks = log_room line.log_blocks (test_passes (table_faults geometry lines.plans line) 15 (bad_log line.log_blocks, LogBlocks) ok.0 refl); no_var = log_alone line.log_blocks line.var_blocks (test_passes (table_faults geometry lines.plans line) 16 (is_some line.log_blocks && not (line.var_blocks == 0), LogVar) ok.0 refl) }) in
+    let room_now = each-push HasRoom lines.plans (plan_of geometry line) room.plans (record { blocks = blocks; pages = pages; log_blocks = log_room line.log_blocks (test-passes (table_faults geometry lines.plans line) 15 (bad_log line.log_blocks, LogBlocks) ok.0 refl); no_var = log_alone line.log_blocks line.var_blocks (test-passes (table_faults geometry lines.plans line) 16 (is_some line.log_blocks && not (line.var_blocks == 0), LogVar) ok.0 refl) }) in
     subst LinesHaveRoom ok.1 (record { device = room.device; plans = room_now; small = subst (λ o. AreSmall o (lines.plans ++ plan_of geometry line ∷ [])) (sym e) (table-small lines line geometry ok.0 (subst (λ o. AreSmall o lines.plans) e room.small).1) })
 
 -- what a line leaves of it, if it isn't refused

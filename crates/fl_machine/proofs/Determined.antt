@@ -4,6 +4,7 @@ use Rattle.std.specs.List.{slice_get, AllByRecursion}
 use Rattle.std.proofs.Math.Seq.{take-length}
 use Rattle.fl_base.specs.declared.types.CutKind.{CutKind}
 use Rattle.fl_base.specs.Generator.{next_random}
+use Rattle.fl_base.proofs.Tests.{not_counted}
 use Rattle.fl_model.specs.Record.{Plan, Record, Config}
 use Rattle.fl_model.specs.Table.{Table, Entry, Refusal, refusal_of, put_joined, put_record, lose, table_seals, flushed}
 use Rattle.fl_model.specs.Work.{Operation, Device, cut_now, counted, done, Progress, Outcome, Finished, CutShort, Failed, Performs, PerformsFirst, operations_of, changed_at}
@@ -464,10 +465,6 @@ recosted old other h = ap (λ (x : Machine). recost other.cost x) h
 one-not-zero : (n : ℕ) → 1 + n ≡ 0 → ⊥
 one-not-zero n e = omega arith
 
-risen-first : (b : Bool) (n : ℕ) → cond b 1 0 + n ≡ 0 → b ≡ false
-risen-first true n e = absurd (one-not-zero n e)
-risen-first false n e = refl
-
 risen-others : (b : Bool) (n : ℕ) → cond b 1 0 + n ≡ 0 → n ≡ 0
 risen-others true n e = absurd (one-not-zero n e)
 risen-others false n e = omega arith
@@ -482,7 +479,7 @@ run-agrees config old other (m ∷ ms) same (step, run) risen (first, rest) =
     let n = plain config other m.command in
     let a : Agrees m n =
     subst (λ (x : Machine). IsWhole (plain config x m.command) → Agrees m (plain config x m.command)) (recosted old other same)
-    (λ w. step-agrees config old other.cost m m.command (ap (λ (x : Machine). x.cost) same) (risen-first m.rose (risen_in ms) risen) step w) first in
+    (λ w. step-agrees config old other.cost m m.command (ap (λ (x : Machine). x.cost) same) (not_counted m.rose (risen_in ms) risen) step w) first in
     let others = run-agrees config m.after n.after ms a.after run (risen-others m.rose (risen_in ms) risen) rest in
     (rw (a.replies, others.0) refl, others.1, (a.last, others.2))
 

@@ -1,5 +1,5 @@
 -- A reply that tells of a fault has its cause.
-use Rattle.std.proofs.Common.{◌≡◌, ℕ, zero, suc, ◌+◌, ◌<◌, ◌≤◌, Bool, true, false, cond, Option, Some, None, List, [], ◌∷◌, ◌++◌, length, map, take, refl, sym, ap, subst, ◌∙◌, arith, ◌⊎◌, inl, inr, MatchOption, MatchBool, slice_set, nat_eq, IsTrue}
+use Rattle.std.proofs.Common.{◌≡◌, ℕ, zero, suc, ◌+◌, ◌<◌, ◌≤◌, Bool, true, false, cond, Option, Some, None, List, [], ◌∷◌, ◌++◌, length, map, take, refl, sym, ap, subst, ◌∙◌, arith, ◌⊎◌, inl, inr, MatchOption, MatchBool, slice_set, nat_eq, IsTrue, zero-add, add-le-add}
 use Rattle.std.specs.List.{slice_get, count_by}
 use Rattle.std.proofs.lemmas.List.Sums.{sum_by-cons, sum_by_push, sum_by-take-le}
 use Rattle.fl_base.specs.declared.types.CutKind.{CutKind}
@@ -35,19 +35,16 @@ none-says : (m : Moment) (replies : List Reply) (new : Machine) → count_by is_
 none-says m replies new z h = no-fault m replies h.replies_are z
 
 -- lines that tell of no fault, and one that may
-zero-plus : (n : ℕ) → 0 + n ≡ n
-zero-plus n = omega arith
-
 count-end : (lines : List Reply) (ending : Reply) → count_by is_fault lines ≡ 0 → count_by is_fault (lines ++ ending ∷ []) ≡ cond (is_fault ending) 1 0
 count-end lines ending z =
     sum_by_push (λ r. cond (is_fault r) 1 0) lines ending
-    ∙ (ap (λ (n : ℕ). n + cond (is_fault ending) 1 0) z ∙ zero-plus (cond (is_fault ending) 1 0))
+    ∙ (ap (λ (n : ℕ). n + cond (is_fault ending) 1 0) z ∙ zero-add (cond (is_fault ending) 1 0))
 
 count-map : {X : Type 0} (f : X → Reply) (xs : List X) → ((x : X) → is_fault (f x) ≡ false) → count_by is_fault (map f xs) ≡ 0
 count-map f [] h = refl
 count-map f (x ∷ xs) h =
     sum_by-cons (λ r. cond (is_fault r) 1 0) (f x) (map f xs)
-    ∙ (ap (λ (b : Bool). cond b 1 0 + count_by is_fault (map f xs)) (h x) ∙ (zero-plus (count_by is_fault (map f xs)) ∙ count-map f xs h))
+    ∙ (ap (λ (b : Bool). cond b 1 0 + count_by is_fault (map f xs)) (h x) ∙ (zero-add (count_by is_fault (map f xs)) ∙ count-map f xs h))
 
 none-least : (a b : ℕ) → a ≤ b → b ≡ 0 → a ≡ 0
 none-least a b h e = omega arith
@@ -332,7 +329,4 @@ faults-caused config old [] run = omega arith
 faults-caused config old (m ∷ ms) (step, run) =
     let first : count_by is_fault m.replies ≤ cond m.rose 1 0 = step-caused config old m m.command step in
     let others : faults_told ms ≤ risen_in ms = faults-caused config m.after ms run in
-    subst (λ (n : ℕ). n ≤ cond m.rose 1 0 + risen_in ms) (sym (sum_by-cons (λ moment. count_by is_fault moment.replies) m ms)) (both _ _ _ _ first others)
-  where
-    both : (a b c d : ℕ) → a ≤ c → b ≤ d → a + b ≤ c + d
-    both a b c d h k = omega arith
+    subst (λ (n : ℕ). n ≤ cond m.rose 1 0 + risen_in ms) (sym (sum_by-cons (λ moment. count_by is_fault moment.replies) m ms)) (add-le-add first others)

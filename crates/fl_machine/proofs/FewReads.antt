@@ -1,11 +1,11 @@
 -- No command reads many pages, where the configuration is a small one.
-use Rattle.std.proofs.Common.{◌≡◌, ℕ, zero, suc, ◌+◌, ◌-◌, ◌*◌, ◌/◌, ◌%◌, ◌<◌, ◌≤◌, Bool, true, false, cond, ◌&&◌, nat_lt, nat_le, ◌==◌, Option, Some, None, option_map, unwrap_or, List, [], ◌∷◌, length, count_by, take, drop, length-take, length-drop, refl, sym, ◌∙◌, ap, subst, ◌⊎◌, inl, inr, if◌then◌else◌, arith, MatchOption, MatchBool, IfSome}
+use Rattle.std.proofs.Common.{◌≡◌, ℕ, zero, suc, ◌+◌, ◌-◌, ◌*◌, ◌/◌, ◌%◌, ◌<◌, ◌≤◌, Bool, true, false, cond, ◌&&◌, nat_lt, ◌==◌, Option, Some, None, option_map, unwrap_or, List, [], ◌∷◌, length, count_by, take, drop, length-take, length-drop, refl, sym, ◌∙◌, ap, subst, ◌⊎◌, inl, inr, if◌then◌else◌, arith, MatchOption, MatchBool, IfSome}
 use Rattle.std.specs.List.{slice_get, AllByRecursion}
-use Rattle.std.proofs.lemmas.Bool.{ltb-true, le-ltb, lt-leb, ne_eqb, cases_lt}
+use Rattle.std.proofs.lemmas.Bool.{ltb-true, le-ltb, ne_eqb, cases_lt, false≢true}
 use Rattle.std.proofs.lemmas.List.Sums.{count_by-le-length}
 use Rattle.std.proofs.lemmas.Nat.{mod_below}
 use Rattle.std.proofs.Math.Nat.{suc-mul, add-mul, mul_comm, mul-le-mul_right, div-le_self, div-le_of_le-mul, lt-div-mul-add, div-zero}
-use Rattle.std.proofs.lemmas.Option.{none-some, same_Some}
+use Rattle.std.proofs.lemmas.Option.{none-some}
 use Rattle.fl_base.specs.declared.types.KeyRange.{KeyRange}
 use Rattle.fl_base.specs.declared.types.Span.{Span}
 use Rattle.fl_model.specs.Record.{Plan, Config, has_index, content_per_page, bytes_equal}
@@ -19,6 +19,8 @@ use Rattle.fl_model.specs.Limits.{scan_limit, past, page_behind, is_indexed, is_
 use Rattle.fl_base.specs.Bits.{bits}
 use Rattle.fl_model.specs.Spline.{lookup_limit, voids_of, is_pending_key, is_covered, retained}
 use Rattle.fl_model.proofs.EntriesStayTold.{numbers-length}
+use Rattle.fl_model.proofs.Lists.{each-at}
+use Rattle.fl_model.proofs.StandingPages.{stands-not}
 use Rattle.fl_words.specs.Command as command
 use Rattle.fl_words.specs.Command.{Command}
 use Rattle.fl_machine.specs.Found.{HasRoom}
@@ -148,15 +150,9 @@ module _ (knots : ℕ) (plan : Plan) (table : Table) (small : IsSmallPlan plan) 
   -- a page that stands isn't before the oldest one
   stands-kept : (ring : Ring) (number : ℕ) → page_stands ring number ≡ true → oldest ring ≤ number
   stands-kept ring number e = elim (cases_lt number (oldest ring)) [
-    | inl lt ↦ absurd (gone (nat_le ring.next number) (nat_le (oldest ring) number) (lt-leb ring.next number (omega (arith, lt))) (lt-leb (oldest ring) number lt) e)
+    | inl lt ↦ absurd (false≢true (sym (stands-not ring number lt) ∙ e))
     | inr ge ↦ ge
   ]
-    where
-      gone : (a b : Bool) → a ≡ false → b ≡ false →
-          cond a true (b && unwrap_or (option_map (λ count. count == 1) (slice_get ring.counts (number - oldest ring))) false) ≡ true → ⊥
-      gone true b k l h = cc
-      gone false true k l h = cc
-      gone false false k l h = cc
 
   -- the bytes of a blob that stands are in kept pages and the next one
   stands-short : (ring : Ring) (entry : Entry) (bytes : List ℕ) → table.var ≡ Some ring → page_stands ring entry.page ≡ true → HoldsBlob plan table ring entry bytes →
@@ -216,12 +212,6 @@ module _ (knots : ℕ) (plan : Plan) (table : Table) (small : IsSmallPlan plan) 
       let short = blob-short (entry_at key table.entries) (found-at key table.entries) in
       omega (arith, lookup-few key, all-pages, short)
 
--- the plans of a configuration
-at-place : (P : Plan → Type 0) (plans : List Plan) (place : ℕ) (plan : Plan) → AllByRecursion P plans → slice_get plans place ≡ Some plan → P plan
-at-place P [] place plan all e = absurd (none-some plan e)
-at-place P (p ∷ plans) zero plan all e = subst P (same_Some p plan e) all.0
-at-place P (p ∷ plans) (suc place) plan all e = at-place P plans place plan all.1 e
-
 -- a table that a name locates stands beside its plan
 abbrev StandsAt : List Plan → List Table → Located → Type 0
 StandsAt plans tables at = (place : ℕ) × (slice_get plans place ≡ Some at.plan) × (slice_get tables place ≡ Some at.table)
@@ -250,7 +240,7 @@ scan-of-name config m small room tables name range span lowest = by_place (locat
     by_place : (o : Option Located) → IfSome o (StandsAt config.plans m.tables) → IfSome o (λ at. scan_limit config.knots at.plan at.table range span lowest ≤ most_of_a_scan)
     by_place None s = tt
     by_place (Some at) s =
-        scan-few config.knots at.plan at.table (at-place IsSmallPlan config.plans s.0 at.plan small.plans s.1) (at-place HasRoom config.plans s.0 at.plan room s.1) (tables s.0 at.plan at.table s.1 s.2) range span lowest
+        scan-few config.knots at.plan at.table (each-at IsSmallPlan config.plans s.0 at.plan small.plans s.1) (each-at HasRoom config.plans s.0 at.plan room s.1) (tables s.0 at.plan at.table s.1 s.2) range span lowest
 
 -- the reads of a command from a state of a small configuration
 module _ (config : Config) (old : Machine) (moment : Moment) (small : IsSmall config) (room : AllByRecursion HasRoom config.plans) (tables : AreTables config.plans old.tables) where
@@ -266,7 +256,7 @@ module _ (config : Config) (old : Machine) (moment : Moment) (small : IsSmall co
       by_cases : (b : Bool) (o : Option Located) → IfSome o (StandsAt config.plans old.tables) → MatchBool b (MatchOption o (none_read moment) P) (none_read moment) → Few
       by_cases true None s h = none-few h
       by_cases true (Some at) s h =
-          go at (at-place IsSmallPlan config.plans s.0 at.plan small.plans s.1) (at-place HasRoom config.plans s.0 at.plan room s.1) (tables s.0 at.plan at.table s.1 s.2) h
+          go at (each-at IsSmallPlan config.plans s.0 at.plan small.plans s.1) (each-at HasRoom config.plans s.0 at.plan room s.1) (tables s.0 at.plan at.table s.1 s.2) h
       by_cases false o s h = none-few h
 
   on-columns : (columns : List ℕ) (P : Located → Type 0) (at : Located) → (P at → Few) → OnColumns moment columns P at → Few
@@ -295,7 +285,7 @@ module _ (config : Config) (old : Machine) (moment : Moment) (small : IsSmall co
       by_places c None t e k h = none-few h
       by_places c (Some plan) None e k h = none-few h
       by_places c (Some plan) (Some table) e k h =
-          omega (arith, h, scan-few config.knots plan table (at-place IsSmallPlan config.plans c.table plan small.plans e) (at-place HasRoom config.plans c.table plan room e) (tables c.table plan table e k) c.cursor.range c.cursor.span (lowest_of c.cursor))
+          omega (arith, h, scan-few config.knots plan table (each-at IsSmallPlan config.plans c.table plan small.plans e) (each-at HasRoom config.plans c.table plan room e) (tables c.table plan table e k) c.cursor.range c.cursor.span (lowest_of c.cursor))
 
       by_cases : (b : Bool) (o : Option OpenCursor) →
           MatchBool b (MatchOption o (none_read moment) (λ c. MatchOption (slice_get config.plans c.table) (none_read moment) (λ plan. MatchOption (slice_get old.tables c.table) (none_read moment) (Limited c plan)))) (none_read moment) → Few

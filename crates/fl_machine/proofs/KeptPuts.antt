@@ -1,16 +1,17 @@
 -- A table with a log keeps what was put: by induction on the run.
-use Rattle.std.proofs.Common.{◌≡◌, ℕ, ◌+◌, ◌-◌, ◌≤◌, Bool, true, false, cond, nat_lt, nat_le, Option, Some, None, IfSome, MatchOption, MatchBool, List, [], ◌∷◌, ◌++◌, length, take, drop, filter, refl, sym, ◌∙◌, ap, subst, arith, ◌⊎◌, inl, inr, IsTrue, length-append, length-drop, length-take, ◌<◌}
+use Rattle.std.proofs.Common.{◌≡◌, ℕ, ◌+◌, ◌-◌, ◌≤◌, Bool, true, false, cond, nat_lt, nat_le, Option, Some, None, IfSome, MatchOption, MatchBool, List, [], ◌∷◌, ◌++◌, length, take, drop, filter, refl, sym, ◌∙◌, ap, subst, arith, ◌⊎◌, inl, inr, IsTrue, length-append, length-drop}
 use Rattle.std.specs.List.{slice_get, AllByRecursion, last_or, sum}
 use Rattle.std.specs.Option.{option_map, unwrap_or}
-use Rattle.std.proofs.lemmas.Bool.{cases_lt, leb-true, true≢false}
-use Rattle.std.proofs.lemmas.List.{append-nil, take-append-drop, drop-append-le, drop-drop, drop-take, drop_all, append_assoc}
+use Rattle.std.proofs.lemmas.Bool.{leb-true, true≢false, le-ltb}
+use Rattle.std.proofs.lemmas.List.{append-nil, take-append-drop, drop-append-le, drop-drop, append_assoc}
 use Rattle.std.proofs.Math.Seq.{drop-append_seam}
+use Rattle.std.proofs.lemmas.List.Elements.{filter-append}
 use Rattle.fl_model.specs.Record.{Plan, Config, has_log}
 use Rattle.fl_model.specs.Ring.{Ring, oldest}
 use Rattle.fl_model.specs.Table.{Table, Entry, is_after, owed}
 use Rattle.fl_model.specs.Log.{last_key}
 use Rattle.fl_model.specs.Mount.{MountEnd, Mounts, turns_from}
-use Rattle.fl_model.proofs.Lists.{drop_none, take_none}
+use Rattle.fl_model.proofs.Lists.{drop_none, take_none, each-weaker, each-drop, drop-in-take}
 use Rattle.fl_words.specs.Command.{Command}
 use Rattle.fl_words.specs.Reply as reply
 use Rattle.fl_machine.specs.Machine.{Machine}
@@ -18,20 +19,13 @@ use Rattle.fl_machine.specs.Step.{Moment, StepOf, Says, EndsMount}
 use Rattle.fl_machine.specs.Run.{Run}
 use Rattle.fl_machine.specs.Found.{trimmed, ring_at, HasRoom, IsLoggedAtRest, IsMounting, LoggedPast, past_of, nothing_held, logged_stop_at, logged_passing, logged_past_after, IsLoggedFound}
 use Rattle.fl_machine.specs.Keeping.{sure, unsure, sure_at, tables_of, newer, PutSoFar, given_up_by, session_adds, mount_gives_up, standing_at, put_after, kept_of, IsKept, KeepsPuts, PutsAreKept}
-use Rattle.fl_machine.proofs.Logs.{Tops, filter_all, filter_none, all_weaker, all_drop, is_last, last-key, not-lt}
+use Rattle.fl_machine.proofs.Logs.{Tops, filter_all, filter_none}
+use Rattle.fl_machine.proofs.LogSeals.{is_last, last-key}
 use Rattle.fl_machine.proofs.RecordsChange.{GoesOn}
-use Rattle.fl_machine.proofs.LoggedSteps.{IsLogKept, InSession, LogKeeps, stands-tops, stands-full, log-step, log-start}
+use Rattle.fl_machine.proofs.LoggedStates.{IsLogKept, InSession, LogKeeps, stands-tops, stands-full}
+use Rattle.fl_machine.proofs.LoggedSteps.{log-step, log-start}
 
 -- ---- the new records of a moment
-
-filter_append : {X : Type 0} (test : X → Bool) (xs ys : List X) → filter test (xs ++ ys) ≡ filter test xs ++ filter test ys
-filter_append test [] ys = refl
-filter_append {X} test (x ∷ xs) ys = by_test (test x) (filter_append test xs ys)
-  where
-    by_test : (b : Bool) → filter test (xs ++ ys) ≡ filter test xs ++ filter test ys →
-        cond b (x ∷ filter test (xs ++ ys)) (filter test (xs ++ ys)) ≡ cond b (x ∷ filter test xs) (filter test xs) ++ filter test ys
-    by_test true e = ap (λ zs. x ∷ zs) e
-    by_test false e = e
 
 -- none of some records whose last has the greatest key came after them
 none-newer : (es : List Entry) → Tops es → AllByRecursion (λ e. is_after es e ≡ false) es
@@ -40,17 +34,17 @@ none-newer es tops = by_last (is_last es)
     by_last : (es ≡ []) ⊎ ((w : Entry) × (last_or None es ≡ Some w)) → AllByRecursion (λ e. is_after es e ≡ false) es
     by_last (inl e) = subst (AllByRecursion (λ e. is_after es e ≡ false)) (sym e) tt
     by_last (inr (w, e)) =
-        all_weaker (λ x. x.kept.key ≤ last_key es) (λ x. is_after es x ≡ false)
+        each-weaker (λ x. x.kept.key ≤ last_key es) (λ x. is_after es x ≡ false)
         (λ x m.
         ap (λ (o : Option Entry). unwrap_or (option_map (λ (l : Entry). nat_lt l.kept.key x.kept.key) o) true) e
-        ∙ not-lt w.kept.key x.kept.key (let key = last-key es w e in omega (arith, m, key)))
+        ∙ le-ltb w.kept.key x.kept.key (let key = last-key es w e in omega (arith, m, key)))
         es tops
 
 newer-is : (xs ys : List Entry) → Tops xs → (h : GoesOn xs ys) → newer xs ys ≡ h.new
 newer-is xs ys tops h =
     ap (filter (λ e. is_after xs e)) h.is
-    ∙ (filter_append (λ e. is_after xs e) (drop h.gone xs) h.new
-    ∙ (ap (λ (es : List Entry). es ++ filter (λ e. is_after xs e) h.new) (filter_none (λ e. is_after xs e) (drop h.gone xs) (all_drop (λ e. is_after xs e ≡ false) h.gone xs (none-newer xs tops)))
+    ∙ (filter-append (λ e. is_after xs e) (drop h.gone xs) h.new
+    ∙ (ap (λ (es : List Entry). es ++ filter (λ e. is_after xs e) h.new) (filter_none (λ e. is_after xs e) (drop h.gone xs) (each-drop (λ e. is_after xs e ≡ false) h.gone xs (none-newer xs tops)))
     ∙ filter_all (λ e. is_after xs e) h.new h.above))
 
 -- ---- what was put so far
@@ -168,15 +162,6 @@ halves past = by_test past.unlogged
     by_test true = take-append-drop (length past.held - 1) past.held
     by_test false = append-nil past.held
 
-drop_take : {X : Type 0} (m n : ℕ) (xs : List X) → drop m (take n xs) ≡ take (n - m) (drop m xs)
-drop_take m n xs = by_order (cases_lt n m)
-  where
-    by_order : (n < m) ⊎ (m ≤ n) → drop m (take n xs) ≡ take (n - m) (drop m xs)
-    by_order (inl lt) =
-        let none : n - m ≡ 0 = omega (arith, lt) in
-        drop_all m (take n xs) (let l = length-take n xs in omega (arith, l, lt)) ∙ sym (ap (λ (k : ℕ). take k (drop m xs)) none ∙ take_none (drop m xs))
-    by_order (inr le) = let all : n ≡ m + (n - m) = omega (arith, le) in ap (λ (k : ℕ). drop m (take k xs)) all ∙ drop-take m (n - m) xs
-
 found-kept : (put : PutSoFar) (past : LoggedPast) (t : Table) → Follows put past → IsLoggedFound past t → IsKept put t
 found-kept put past t h found = record { all = by_all found.all; paid = elim found.paid [ inl e ↦ inl e | inr e ↦ inr (e.0, first-of e.1) ] }
   where
@@ -196,7 +181,7 @@ found-kept put past t h found = record { all = by_all found.all; paid = elim fou
         let len : length (kept_of put) ≡ length past.held - past.given_up = ap (λ (es : List Entry). length es) whole ∙ length-drop past.given_up past.held in
         let pending = h.pending in
         let same : (length past.held - past.pending) - past.given_up ≡ length (kept_of put) - put.pending = omega (arith, len, pending) in
-        e ∙ (drop_take past.given_up (length past.held - past.pending) past.held ∙ (ap (λ (n : ℕ). take n (drop past.given_up past.held)) same ∙ ap (take (length (kept_of put) - put.pending)) (sym whole)))
+        e ∙ (drop-in-take past.given_up (length past.held - past.pending) past.held ∙ (ap (λ (n : ℕ). take n (drop past.given_up past.held)) same ∙ ap (take (length (kept_of put) - put.pending)) (sym whole)))
 
     by_all : (t.entries ++ owed t ≡ drop past.given_up past.held) ⊎ (IsTrue past.unlogged × (t.entries ++ owed t ≡ drop past.given_up (take (length past.held - 1) past.held))) →
         (t.entries ++ owed t ≡ drop put.given_up put.held) ⊎ (t.entries ++ owed t ≡ kept_of put)

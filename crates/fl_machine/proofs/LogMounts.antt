@@ -1,10 +1,11 @@
 -- The mount of a table with a log, turn by turn: what stands wherever it stops, and what it ends with.
-use Rattle.std.proofs.Common.{◌≡◌, ℕ, zero, suc, ◌+◌, ◌-◌, ◌<◌, ◌≤◌, Bool, true, false, cond, ◌&&◌, ◌==◌, nat_lt, Option, Some, None, List, [], ◌∷◌, ◌++◌, length, take, drop, refl, sym, ◌∙◌, ap, subst, arith, ◌⊎◌, inl, inr, length-append, length-drop, IsTrue, eq-eqb}
+use Rattle.std.proofs.Common.{◌≡◌, ℕ, ◌+◌, ◌-◌, ◌<◌, ◌≤◌, Bool, true, false, cond, ◌&&◌, ◌==◌, nat_lt, Option, Some, None, List, [], ◌∷◌, ◌++◌, length, take, drop, refl, sym, ◌∙◌, ap, subst, arith, ◌⊎◌, inl, inr, length-append, length-drop, IsTrue, eq-eqb}
 use Rattle.std.specs.List.{list_any, sum}
 use Rattle.std.specs.Option.{option_map}
-use Rattle.std.proofs.lemmas.List.{drop-append-le, append-nil, take-append-le}
+use Rattle.std.proofs.lemmas.List.{drop-append-le, append-nil, take-append-le, take_all, nil_from_length}
 use Rattle.std.proofs.lemmas.List.Sums.{sum_by_push}
-use Rattle.std.proofs.lemmas.Bool.{cases_lt, eqb-true, false≢true, true≢false, or_parts}
+use Rattle.std.proofs.lemmas.Bool.{cases_lt, eqb-true, false≢true, true≢false}
+use Rattle.fl_base.proofs.Tests.{some_from}
 use Rattle.fl_model.specs.Record.{Plan, has_index, has_log, entries_per_page}
 use Rattle.fl_model.specs.Ring.{Shape, Ring, sealed, erased}
 use Rattle.fl_model.specs.Table.{Table, Entry, RingName, DataRing, IndexRing, VarRing, LogRing, shape_of, with_ring, is_dirty, is_torn, seal_buffer, seal_page, after_seal, after_seals, table_seals, owed, is_rows_spent}
@@ -12,11 +13,16 @@ use Rattle.fl_model.specs.Work.{Kind, VoidMark, Erase}
 use Rattle.fl_model.specs.Within.{seal_within, seals_within, repair_within, turn_within, effect_within, all_done}
 use Rattle.fl_model.specs.Mount.{Of, Replay, turned, renumber, renumbered, at_least_of, ready}
 use Rattle.fl_model.proofs.Among.{seals-all_done}
+use Rattle.fl_model.proofs.Lists.{sum_take_more, any-drop}
 use Rattle.fl_machine.specs.Found.{HasRoom, LoggedPast}
-use Rattle.fl_machine.proofs.Trimmed.{trimmed-sealed, Renumbers, renumbers-renumbered, sum_void}
+use Rattle.fl_machine.proofs.Trimmed.{trimmed-sealed, Renumbers, renumbers-renumbered, sum_void, more_zeros}
 use Rattle.fl_machine.proofs.Effects.{shape_ok}
-use Rattle.fl_machine.proofs.Logs.{Core, core, log_in, sum_take_more, owed_of, IsFine, lost, RestsAs, IsOwedFound, IsMarked, IsVoided, IsWhole, sealed-at, trimmed-seals, IsThere, front-all, owed-lost, fine-lost, found-same, numbers-fine, torn-whole, voided-rests, KeepsLogged, log-voided-rests, replayed, replayed-owed, replayed-fine, replayed-rests, replayed-marked}
-use Rattle.fl_machine.proofs.LogTables.{trimmed_in, Goes, goes-seals, index-goes, var-goes, data-goes, marked-by, log_shape_ok, seals_by}
+use Rattle.fl_machine.proofs.Logs.{Core, core, log_in, owed_of, IsFine, lost, RestsAs, IsOwedFound, IsThere, front-all, owed-lost, fine-lost}
+use Rattle.fl_machine.proofs.LogSeals.{IsMarked, sealed-at, trimmed-seals}
+use Rattle.fl_machine.proofs.LogRepairs.{IsVoided, IsWhole, found-same, numbers-fine, torn-whole, voided-rests, KeepsLogged, log-voided-rests}
+use Rattle.fl_machine.proofs.LogReplays.{replayed, replayed-owed, replayed-fine, replayed-rests, replayed-marked, whole-owed}
+use Rattle.fl_machine.proofs.LogOperations.{trimmed_in, Goes, goes-seals, index-goes, var-goes, data-goes, marked-by, core-erased, trimmed-same}
+use Rattle.fl_machine.proofs.LogTables.{log_shape_ok, seals_by}
 
 -- the past of a table that a mount has brought this far
 abbrev pub pass : LoggedPast → Core → Core → LoggedPast
@@ -46,15 +52,6 @@ trimmed-go count a b h n =
 abbrev pub Steady : Core → Core → Type 0
 Steady a b = (count : ℕ) (d : Core) → CountsGo count b d → trimmed_in a d ≡ trimmed_in a b + trimmed_in b d
 
-trimmed-same : (a b : Core) → b.counts ≡ a.counts → b.next ≡ a.next → trimmed_in a b ≡ 0
-trimmed-same a b e n =
-    let z : (b.next - length b.counts) - (a.next - length a.counts) ≡ 0 = rw (e, n) (omega arith) in
-    ap (λ k. sum (take k a.counts)) z ∙ none a.counts
-  where
-    none : (xs : List ℕ) → sum (take 0 xs) ≡ 0
-    none [] = refl
-    none (x ∷ xs) = refl
-
 trimmed-from : (a b d : Core) → b.counts ≡ a.counts → b.next ≡ a.next → trimmed_in a d ≡ trimmed_in b d
 trimmed-from a b d e n = rw (e, n) refl
 
@@ -76,14 +73,8 @@ sum_zero_end n xs = by_order (cases_lt n (length xs + 1))
     by_order : (n < length xs + 1) ⊎ (length xs + 1 ≤ n) → sum (take n (xs ++ 0 ∷ [])) ≡ sum (take n xs)
     by_order (inl lt) = ap sum (take-append-le n xs (0 ∷ []) (omega (arith, lt)))
     by_order (inr le) =
-        let all : take n (xs ++ 0 ∷ []) ≡ xs ++ 0 ∷ [] = take-all n (xs ++ 0 ∷ []) (omega (arith, le, length-append xs (0 ∷ []))) in
-        ap sum all ∙ (sum_by_push (λ (m : ℕ). m) xs 0 ∙ (let z : sum xs + 0 ≡ sum xs = omega arith in z ∙ ap sum (sym (take-all n xs (omega (arith, le))))))
-      where
-        take-all : (n : ℕ) (ys : List ℕ) → length ys ≤ n → take n ys ≡ ys
-        take-all zero [] h = refl
-        take-all (suc n) [] h = refl
-        take-all zero (y ∷ ys) h = absurd (omega (arith, h))
-        take-all (suc n) (y ∷ ys) h = ap (λ zs. y ∷ zs) (take-all n ys (omega (arith, h)))
+        let all : take n (xs ++ 0 ∷ []) ≡ xs ++ 0 ∷ [] = take_all n (xs ++ 0 ∷ []) (omega (arith, le, length-append xs (0 ∷ []))) in
+        ap sum all ∙ (sum_by_push (λ (m : ℕ). m) xs 0 ∙ (let z : sum xs + 0 ≡ sum xs = omega arith in z ∙ ap sum (sym (take_all n xs (omega (arith, le))))))
 
 pub steady-voided : (a b : Core) → length a.counts ≤ a.next → CountsGo 0 a b → length b.counts ≤ b.next → Steady a b
 steady-voided a b n h nb count d go =
@@ -155,17 +146,7 @@ voided-by plan t room n =
     )
 
 void_end : (gone : ℕ) (xs : List ℕ) → list_any (nat_lt 0) xs ≡ false → list_any (nat_lt 0) (drop gone (xs ++ 0 ∷ [])) ≡ false
-void_end gone xs h = void_drop gone (xs ++ 0 ∷ []) (void_push xs h)
-  where
-    void_push : (xs : List ℕ) → list_any (nat_lt 0) xs ≡ false → list_any (nat_lt 0) (xs ++ 0 ∷ []) ≡ false
-    void_push [] h = refl
-    void_push (x ∷ xs) h = let both = or_parts (nat_lt 0 x) (list_any (nat_lt 0) xs) h in rw (both.0, void_push xs both.1) refl
-
-    void_drop : (n : ℕ) (ys : List ℕ) → list_any (nat_lt 0) ys ≡ false → list_any (nat_lt 0) (drop n ys) ≡ false
-    void_drop zero [] h = refl
-    void_drop (suc n) [] h = refl
-    void_drop zero (y ∷ ys) h = h
-    void_drop (suc n) (y ∷ ys) h = void_drop n ys (or_parts (nat_lt 0 y) (list_any (nat_lt 0) ys) h).1
+void_end gone xs h = any-drop (nat_lt 0) gone (xs ++ 0 ∷ []) (more_zeros xs h)
 
 -- the pages of the ring are those from which the mount began, or all of them are void
 pub record IsStart (x c : Core) : Type 0 where
@@ -319,13 +300,6 @@ log-void plan past x t r room logged torn h =
     by_any true b e {c} k = inl (k ∙ e, refl)
     by_any false b e {c} k = inr (k ∙ e, refl)
 
-log-erased : (t : Table) → core (with_ring LogRing erased t) ≡ core t
-log-erased t = ap (λ (l : Option (List ℕ × Bool)). record (core t) { log = l }) (by_log t.log)
-  where
-    by_log : (o : Option Ring) → log_in (option_map erased o) ≡ log_in o
-    by_log None = refl
-    by_log (Some r) = refl
-
 log-repair : (plan : Plan) (past : LoggedPast) (x : Core) (t : Table) → HasRoom plan → IsTrue (has_log plan) → IsAfter past x (core t) →
     TurnGoes plan (Halts past x) (λ u. IsAfter past x (core u)) (repair_within plan LogRing t) t
 log-repair plan past x t room logged h = by_log t.log refl
@@ -343,7 +317,7 @@ log-repair plan past x t room logged h = by_log t.log refl
         v = seal_page plan LogRing 0 u
 
         erased_after : (w : Table) → IsAfter past x (core w) → IsAfter past x (core (with_ring LogRing erased w))
-        erased_after w a = subst (IsAfter past x) (sym (log-erased w)) a
+        erased_after w a = subst (IsAfter past x) (sym (core-erased w)) a
 
         by_tests : (torn : Bool) → r.torn ≡ torn → (dirty : Bool) → TurnGoes plan (Halts past x) (λ u. IsAfter past x (core u)) ((cond torn ((LogRing, VoidMark) ∷ []) []) ++ (cond dirty ((LogRing, Erase) ∷ []) [])) u
         by_tests true e true =
@@ -379,10 +353,6 @@ pub after-halts : (past : LoggedPast) (x c : Core) (d : Core) → IsAfter past x
 after-halts past x c d h = mid-halts past x c d h.mid
 
 -- what owes nothing joins as nothing
-none_of : (es : List Entry) → length es ≡ 0 → es ≡ []
-none_of [] e = refl
-none_of (x ∷ xs) e = absurd (omega (arith, e))
-
 nothing-joins : (past : LoggedPast) (x c : Core) (t : Table) → core t ≡ replayed c → IsAfter past x c → owed_of c ≡ [] → IsDone past x t
 nothing-joins past x c t is h paid =
     let d : Core = replayed c in
@@ -432,11 +402,7 @@ joined-data plan past x c t room is h some =
     (data-goes plan (Halts past x) t (here (core t)) (begins (core t)) (begins torn) (marks torn) (marks d), done)
   where
     whole : IsWhole c
-    whole = by_case h.mid.rests.fine.whole
-      where
-        by_case : (owed_of c ≡ c.logged) ⊎ ((owed_of c ≡ []) × (c.torn ≡ false)) → IsWhole c
-        by_case (inl e) = e
-        by_case (inr e) = let n : length (owed_of c) ≡ 0 = ap (λ (es : List Entry). length es) e.0 in absurd (omega (arith, n, some))
+    whole = whole-owed c h.mid.rests.fine some
 
 -- the block ahead is erased after it
 done-erased : (plan : Plan) (past : LoggedPast) (x : Core) (t : Table) → IsDone past x (seal_buffer plan DataRing t) → IsDone past x (after_seal plan DataRing t)
@@ -465,12 +431,8 @@ joined-seals plan past x c t a b room is h some = by_rings a b
 
 replay-joined : (plan : Plan) (past : LoggedPast) (x c : Core) (t : Table) (z a b : Bool) → HasRoom plan → core t ≡ replayed c → IsAfter past x c → (length (owed_of c) == 0) ≡ z →
     Goes plan (Halts past x) (seals_within plan (seals_by z a b) t) t × IsDone past x (after_seals plan (seals_by z a b) t)
-replay-joined plan past x c t true a b room is h e = (tt, nothing-joins past x c t is h (none_of (owed_of c) (eqb-true (length (owed_of c)) 0 e)))
-replay-joined plan past x c t false a b room is h e = joined-seals plan past x c t a b room is h (some (length (owed_of c)) e)
-  where
-    some : (n : ℕ) → (n == 0) ≡ false → 0 < n
-    some zero e = absurd (true≢false e)
-    some (suc n) e = omega arith
+replay-joined plan past x c t true a b room is h e = (tt, nothing-joins past x c t is h (nil_from_length (owed_of c) (eqb-true (length (owed_of c)) 0 e)))
+replay-joined plan past x c t false a b room is h e = joined-seals plan past x c t a b room is h (some_from (length (owed_of c)) e)
 
 pub replay-turn : (plan : Plan) (past : LoggedPast) (x : Core) (t : Table) → HasRoom plan → IsAfter past x (core t) →
     TurnGoes plan (Halts past x) (IsDone past x) (turn_within plan Replay (turned plan Replay t)) (turned plan Replay t)

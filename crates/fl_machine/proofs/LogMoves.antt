@@ -1,20 +1,22 @@
 -- Operations of all tables, seen at a table with a log: those of other tables leave it, and its own stop well.
-use Rattle.std.proofs.Common.{◌≡◌, ◌≢◌, ℕ, zero, suc, ◌+◌, Bool, true, false, cond, Option, Some, None, List, [], ◌∷◌, ◌++◌, map, refl, sym, ◌∙◌, ap, subst, arith, ◌⊎◌, inl, inr, IsTrue}
+use Rattle.std.proofs.Common.{◌≡◌, ◌≢◌, ℕ, zero, suc, ◌+◌, Bool, true, false, Option, Some, None, List, [], ◌∷◌, ◌++◌, map, refl, sym, ◌∙◌, ap, subst, arith, ◌⊎◌, inl, inr, IsTrue}
 use Rattle.std.specs.List.{slice_get, AllByRecursion}
 use Rattle.std.specs.Option.{option_map, unwrap_or}
 use Rattle.std.proofs.lemmas.Option.{none-some}
 use Rattle.fl_base.specs.declared.types.CutKind.{CutKind}
 use Rattle.fl_model.specs.Record.{Plan, has_index, has_var, has_log}
 use Rattle.fl_model.specs.Table.{Table, RingName, DataRing, IndexRing, VarRing, LogRing}
-use Rattle.fl_model.specs.Work.{Kind, effect, Operation, done, Leaves, Either, Device, Progress, Outcome, Finished, CutShort, Failed, Performs, PerformsFirst, cut_now, counted, changed_by, changed_at}
+use Rattle.fl_model.specs.Work.{Kind, effect, Operation, done, Leaves, Either, Device, Progress, Outcome, Finished, CutShort, Failed, Performs, PerformsFirst, cut_now, counted, changed_by}
 use Rattle.fl_model.specs.Within.{effect_within, all_done, at_place, turn_within}
 use Rattle.fl_model.specs.Mount.{Turn, Of, Replay, turned, turned_at, operations_at, turn_operations, turns_from, Mounts, MountEnd, Mounted, Stopped, Unread, GoesOn}
 use Rattle.fl_model.proofs.Among.{turn-at, changed-by, changed-there}
+use Rattle.fl_model.proofs.Lists.{each-front}
 use Rattle.fl_machine.specs.Found.{HasRoom, LoggedPast}
 use Rattle.fl_machine.proofs.Performed.{either_ending}
-use Rattle.fl_machine.proofs.Logs.{Core, core, RestsAs, all_front}
-use Rattle.fl_machine.proofs.LogTables.{Goes}
+use Rattle.fl_machine.proofs.Logs.{Core, core, RestsAs}
+use Rattle.fl_machine.proofs.LogOperations.{Goes}
 use Rattle.fl_machine.proofs.LogMounts.{Halts, TurnGoes, IsAfter, IsDone, start-mid, mid-halts, done-halts, after-halts, calm-index, calm-var, data-turn, log-turn, replay-turn}
+use Rattle.fl_machine.proofs.MountsFindRecords.{turns_by}
 
 -- ---- one place
 
@@ -42,18 +44,6 @@ changed_by-elsewhere (suc n) (suc p) f (q ∷ qs) (x ∷ xs) h = changed_by-else
 
 pub changed_by-there : {P X : Type 0} (p : ℕ) (f : P → X → X) (plans : List P) (xs : List X) (plan : P) (x : X) → slice_get plans p ≡ Some plan → slice_get xs p ≡ Some x → slice_get (changed_by p f plans xs) p ≡ Some (f plan x)
 changed_by-there p f plans xs plan x e k = ap (λ ys. slice_get ys p) (changed-by p f plans xs plan x e k) ∙ changed-there p x (f plan x) xs k
-
-pub changed_at-elsewhere : {X : Type 0} (n p : ℕ) (f : X → X) (xs : List X) → n ≢ p → slice_get (changed_at n f xs) p ≡ slice_get xs p
-changed_at-elsewhere n p f [] h = refl
-changed_at-elsewhere zero zero f (x ∷ xs) h = absurd (h refl)
-changed_at-elsewhere zero (suc p) f (x ∷ xs) h = refl
-changed_at-elsewhere (suc n) zero f (x ∷ xs) h = refl
-changed_at-elsewhere (suc n) (suc p) f (x ∷ xs) h = changed_at-elsewhere n p f xs (λ e. h (ap suc e))
-
-pub changed_at-there : {X : Type 0} (p : ℕ) (f : X → X) (xs : List X) (x : X) → slice_get xs p ≡ Some x → slice_get (changed_at p f xs) p ≡ Some (f x)
-changed_at-there p f [] x e = absurd (none-some x e)
-changed_at-there {X} zero f (y ∷ ys) x e = let same : y ≡ x = cc in ap (λ z. Some (f z)) same
-changed_at-there (suc p) f (y ∷ ys) x e = changed_at-there p f ys x e
 
 -- an operation of this table, and of another
 done-here : (plans : List Plan) (p : ℕ) (o : Operation) (tables : List Table) (plan : Plan) (t : Table) → o.table ≡ p → slice_get plans p ≡ Some plan → slice_get tables p ≡ Some t →
@@ -270,7 +260,7 @@ turn-unread : (plans : List Plan) (rose : Bool) (at : ℕ × Turn) (turns : List
     operations_at plans at (turned_at plans at tables) ≡ front ++ others → Performs plans rose front device (turned_at plans at tables) end → end.outcome ≡ Finished → LeftBy p past x end.tables
 turn-unread plans rose at turns front others device tables end p plan past x stage t room logged rests e k h (inl (other, left)) split did finished =
     let there = changed_by-elsewhere at.0 p (λ plan table. turned plan at.1 table) plans tables other ∙ k in
-    let all = all_front (λ (o : Operation). o.table ≡ at.0) front others (subst (AllAt at.0) split (operations-at-one plans at (turned_at plans at tables))) in
+    let all = each-front (λ (o : Operation). o.table ≡ at.0) front others (subst (AllAt at.0) split (operations-at-one plans at (turned_at plans at tables))) in
     let ends = performs-elsewhere plans rose front device (turned_at plans at tables) end p at.0 t (Halts past x) other all there (stage-halts past x stage t (core t) rests h) did in
     record { table = t; is = subst (λ (o : Outcome). EndsAt p (Halts past x) t end.tables o) finished ends; halts = stage-halts past x stage t x rests h }
 turn-unread plans rose at turns front others device tables end p plan past x stage t room logged rests e k h (inr (here, (next, moves, left))) split did finished = at-place at here moves split did
@@ -289,9 +279,15 @@ turn-unread plans rose at turns front others device tables end p plan past x sta
             let last = subst (λ (ws : List (RingName × Kind)). AtStage past x next (all_done (effect_within plan) ws u)) is g.after in
             let w = all_done (effect_within plan) (map strip front ++ map strip others) u in
             let f = goes-front plan (Halts past x) (map strip front) (map strip others) u goes (stage-halts past x next w (core w) rests last) in
-            let all = all_front (λ (o : Operation). o.table ≡ p) front others (subst (AllAt p) split (operations-at-one plans (p, turn) (turned_at plans (p, turn) tables))) in
+            let all = each-front (λ (o : Operation). o.table ≡ p) front others (subst (AllAt p) split (operations-at-one plans (p, turn) (turned_at plans (p, turn) tables))) in
             let ends = performs-here plans rose front device (turned_at plans (p, turn) tables) end p plan u (Halts past x) e all there f.0 did in
             record { table = all_done (effect_within plan) (map strip front) u; is = subst (λ (o : Outcome). EndsAt p (Halts past x) (all_done (effect_within plan) (map strip front) u) end.tables o) finished ends; halts = f.1 }
+
+choice : (p : ℕ) (at : ℕ × Turn) (rest : List (ℕ × Turn)) (stage : Stage) → LogTurns p stage (at ∷ rest) →
+    ((at.0 ≢ p) × LogTurns p stage rest) ⊎ ((at.0 ≡ p) × ((next : Stage) × (next_stage stage at.1 ≡ Some next) × LogTurns p next rest))
+choice p at rest Start h = h
+choice p at rest Middle h = h
+choice p at rest Ready h = h
 
 -- the whole mount
 pub mounts-logged : (plans : List Plan) (rose : Bool) (turns : List (ℕ × Turn)) (device : Device) (tables : List Table) (how : MountEnd) (p : ℕ) (plan : Plan) (past : LoggedPast) (x : Core) (stage : Stage) (t : Table) →
@@ -300,21 +296,11 @@ mounts-logged plans rose [] device tables how p plan past x Start t room logged 
 mounts-logged plans rose [] device tables how p plan past x Middle t room logged rests e turns k h did = absurd turns
 mounts-logged plans rose [] device tables how p plan past x Ready t room logged rests e turns k h did = subst (LogLeft p past x) (sym did) (t, k, h)
 mounts-logged plans rose (at ∷ rest) device tables how p plan past x stage t room logged rests e turns k h (inl (end, unread, is)) =
-    subst (LogLeft p past x) (sym is) (turn-unread plans rose at rest unread.front unread.others device tables end p plan past x stage t room logged rests e k h (choice stage turns) unread.split unread.did unread.outcome)
-  where
-    choice : (stage : Stage) → LogTurns p stage (at ∷ rest) → ((at.0 ≢ p) × LogTurns p stage rest) ⊎ ((at.0 ≡ p) × ((next : Stage) × (next_stage stage at.1 ≡ Some next) × LogTurns p next rest))
-    choice Start h = h
-    choice Middle h = h
-    choice Ready h = h
+    subst (LogLeft p past x) (sym is) (turn-unread plans rose at rest unread.front unread.others device tables end p plan past x stage t room logged rests e k h (choice p at rest stage turns) unread.split unread.did unread.outcome)
 mounts-logged plans rose (at ∷ rest) device tables how p plan past x stage t room logged rests e turns k h (inr (end, did, goes)) =
-    let ends = turn-ends plans rose at rest device tables end p plan past x stage t room logged rests e k h (choice stage turns) did in
+    let ends = turn-ends plans rose at rest device tables end p plan past x stage t room logged rests e k h (choice p at rest stage turns) did in
     by_outcome end.outcome ends.ends goes (λ there m. mounts-logged plans rose rest end.device end.tables how p plan past x ends.stage ends.table room logged rests e ends.turns_left there ends.there m)
   where
-    choice : (stage : Stage) → LogTurns p stage (at ∷ rest) → ((at.0 ≢ p) × LogTurns p stage rest) ⊎ ((at.0 ≡ p) × ((next : Stage) × (next_stage stage at.1 ≡ Some next) × LogTurns p next rest))
-    choice Start h = h
-    choice Middle h = h
-    choice Ready h = h
-
     by_outcome : (o : Outcome) {final : Table} → EndsAt p (Halts past x) final end.tables o → GoesOn o end how (Mounts plans rose rest end.device end.tables how) →
         (slice_get end.tables p ≡ Some final → Mounts plans rose rest end.device end.tables how → LogLeft p past x how) → LogLeft p past x how
     by_outcome Finished ends g go = go ends g
@@ -322,10 +308,6 @@ mounts-logged plans rose (at ∷ rest) device tables how p plan past x stage t r
     by_outcome (Failed last) ends g go = subst (LogLeft p past x) (sym g) (record { table = ends.after; is = ends.after_is; halts = ends.stops })
 
 -- the turns of a configuration bring a table with a log to its end
-abbrev log_turns_by : ℕ → Bool → Bool → Bool → List (ℕ × Turn) → List (ℕ × Turn)
-log_turns_by place a b l rest =
-    map (λ (turn : Turn). (place, turn)) (map (λ (ring : RingName). Of ring) (cond a (IndexRing ∷ []) [] ++ DataRing ∷ [] ++ cond b (VarRing ∷ []) []) ++ cond l (Of LogRing ∷ Replay ∷ []) []) ++ rest
-
 skip : (p : ℕ) (stage : Stage) (place : ℕ) (turn : Turn) (rest : List (ℕ × Turn)) → place ≢ p → LogTurns p stage rest → LogTurns p stage ((place, turn) ∷ rest)
 skip p Start place turn rest n h = inl (n, h)
 skip p Middle place turn rest n h = inl (n, h)
@@ -335,7 +317,7 @@ skip-all : (p : ℕ) (stage : Stage) (place : ℕ) (ts : List Turn) (rest : List
 skip-all p stage place [] rest n h = h
 skip-all p stage place (turn ∷ ts) rest n h = skip p stage place turn _ n (skip-all p stage place ts rest n h)
 
-own-turns : (p : ℕ) (a b : Bool) (rest : List (ℕ × Turn)) → LogTurns p Ready rest → LogTurns p Start (log_turns_by p a b true rest)
+own-turns : (p : ℕ) (a b : Bool) (rest : List (ℕ × Turn)) → LogTurns p Ready rest → LogTurns p Start (turns_by p a b true rest)
 own-turns p true true rest h = inr (refl, (Start, refl, inr (refl, (Middle, refl, inr (refl, (Middle, refl, inr (refl, (Middle, refl, inr (refl, (Ready, refl, h))))))))))
 own-turns p true false rest h = inr (refl, (Start, refl, inr (refl, (Middle, refl, inr (refl, (Middle, refl, inr (refl, (Ready, refl, h))))))))
 own-turns p false true rest h = inr (refl, (Middle, refl, inr (refl, (Middle, refl, inr (refl, (Middle, refl, inr (refl, (Ready, refl, h))))))))
@@ -351,7 +333,7 @@ log-turns-from p place zero (q ∷ plans) plan e s l =
     let here : place ≡ p = omega (arith, e) in
     let same : q ≡ plan = cc in
     subst (λ n. LogTurns n Start (turns_from place (q ∷ plans))) here
-    (subst (λ (b : Bool). LogTurns place Start (log_turns_by place (has_index q) (has_var q) b (turns_from (place + 1) plans))) (sym (subst (λ (r : Plan). has_log r ≡ true) (sym same) l))
+    (subst (λ (b : Bool). LogTurns place Start (turns_by place (has_index q) (has_var q) b (turns_from (place + 1) plans))) (sym (subst (λ (r : Plan). has_log r ≡ true) (sym same) l))
     (own-turns place (has_index q) (has_var q) (turns_from (place + 1) plans) (turns-over place (place + 1) plans (λ z. absurd (omega (arith, z))) (λ m z. absurd (omega (arith, z))))))
 log-turns-from p place (suc k) (q ∷ plans) plan e s l =
     skip-all p Start place _ (turns_from (place + 1) plans) (λ z. absurd (omega (arith, z, e))) (log-turns-from p (place + 1) k plans plan (omega (arith, e)) s l)

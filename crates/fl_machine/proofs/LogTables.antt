@@ -1,136 +1,24 @@
 -- A table with a log, operation by operation: what stands wherever one of them fails.
-use Rattle.std.proofs.Common.{◌≡◌, ℕ, zero, suc, ◌+◌, ◌-◌, ◌/◌, ◌<◌, ◌≤◌, Bool, true, false, cond, not, ◌&&◌, ◌||◌, ◌==◌, nat_lt, nat_le, Option, Some, None, List, [], ◌∷◌, ◌++◌, length, length-take, take, drop, replicate, refl, sym, ◌∙◌, ap, subst, arith, ◌⊎◌, inl, inr, IsTrue, eq-eqb, zero-add}
+use Rattle.std.proofs.Common.{◌≡◌, ℕ, zero, suc, ◌+◌, ◌-◌, ◌/◌, ◌<◌, Bool, true, false, cond, ◌&&◌, ◌==◌, nat_lt, Option, Some, None, List, [], ◌∷◌, ◌++◌, length, length-take, take, drop, replicate, refl, sym, ◌∙◌, ap, subst, arith, ◌⊎◌, inl, inr, IsTrue, eq-eqb, zero-add}
 use Rattle.std.specs.List.{AllByRecursion, last_or, list_any, sum}
-use Rattle.std.specs.Option.{option_map, unwrap_or}
 use Rattle.std.proofs.lemmas.List.{append-nil, drop-append-le}
-use Rattle.std.proofs.lemmas.Bool.{leb-false, false≢true, true≢false}
-use Rattle.std.proofs.lemmas.Option.{none-some}
+use Rattle.std.proofs.lemmas.Bool.{false≢true, true≢false}
 use Rattle.fl_model.specs.Record.{Record, Plan, has_index, has_log, rows_per_page, entries_per_page, content_per_page}
-use Rattle.fl_model.specs.Ring.{IsShape, Ring, sealed, begun, erased}
-use Rattle.fl_model.specs.Table.{Table, Entry, RingName, DataRing, IndexRing, VarRing, LogRing, shape_of, with_ring, is_dirty, seal_buffer, after_seal, after_seals, table_seals, make_room_seals, fill, fill_seals, join_seals, put_joined, log_seals, blob_len, start_page, start_offset, flushed, is_rows_spent, refusal_of, Refusal, key_refusal, value_refusal, blob_refusal, refuse_if, is_spent, BadKey, BadColumns, Spent, first_of as or_else}
-use Rattle.fl_model.specs.Work.{Kind, Body, Mark, Erase}
-use Rattle.fl_model.specs.Within.{seal_within, seals_within, effect_within, all_done}
-use Rattle.fl_model.proofs.Among.{after_seals-append, seal-all_done, seals-all_done}
-use Rattle.fl_model.proofs.Lists.{take_none}
+use Rattle.fl_model.specs.Ring.{IsShape, Ring, sealed, begun}
+use Rattle.fl_model.specs.Table.{Table, Entry, RingName, DataRing, IndexRing, VarRing, LogRing, shape_of, with_ring, seal_buffer, after_seal, after_seals, table_seals, make_room_seals, fill, fill_seals, join_seals, put_joined, log_seals, blob_len, start_page, start_offset, flushed, is_rows_spent, refusal_of}
+use Rattle.fl_model.specs.Work.{Kind}
+use Rattle.fl_model.specs.Within.{seal_within, seals_within}
+use Rattle.fl_model.proofs.Among.{after_seals-append, seals-all_done, within-append}
+use Rattle.fl_model.proofs.Accepted.{accepted}
 use Rattle.fl_machine.specs.Found.{HasRoom}
-use Rattle.fl_machine.proofs.Trimmed.{trimmed-sealed}
-use Rattle.fl_machine.proofs.Effects.{shape_ok}
 use Rattle.fl_machine.proofs.RecordsChange.{IsGreatest, IsLasting, Rows, marked_rows, rows_in, rows_with, sure_in, sure-idle, sure-ready, sure-joining}
-use Rattle.fl_machine.proofs.Logs.{Core, core, log_in, rest_of, owed_of, IsFine, front_of, EndsWhole, IsIdle, IsReady, IsJoining, Phase, Idle, Ready, Joining, past_in, lost, RestsAs, IsMarked, sealed-at, trimmed-seals, IsThere, rests-here, joining-some, marked-rests, marked-fine, marked-owed, marked-few, ready-owed, last-drop, begun-fine, begun-joining, logged-ready, logged-fine, logged-rests, joins, joins-fine, joins-ready, joins-idle, any-end}
-
--- what was trimmed between two states
-abbrev pub trimmed_in : Core → Core → ℕ
-trimmed_in c d = sum (take ((d.next - length d.counts) - (c.next - length c.counts)) c.counts)
-
--- the operations of a list stop well: before each and after each the table rests as it should
-abbrev pub Goes : Plan → (Core → Core → Type 0) → List (RingName × Kind) → Table → Type 0
-Goes plan Stop [] t = Unit {0}
-Goes plan Stop (operation ∷ operations) t =
-    Stop (core t) (core t) × Stop (core t) (core (effect_within plan operation t)) × Goes plan Stop operations (effect_within plan operation t)
-
-pub goes-append : (plan : Plan) (Stop : Core → Core → Type 0) (xs ys : List (RingName × Kind)) (t : Table) → Goes plan Stop xs t → Goes plan Stop ys (all_done (effect_within plan) xs t) → Goes plan Stop (xs ++ ys) t
-goes-append plan Stop [] ys t h k = k
-goes-append plan Stop (x ∷ xs) ys t h k = (h.0, h.1, goes-append plan Stop xs ys (effect_within plan x t) h.2 k)
-
--- seals, one after another
-pub goes-seals : (plan : Plan) (Stop : Core → Core → Type 0) (ring : RingName) (rings : List RingName) (t : Table) → Goes plan Stop (seal_within plan ring t) t → Goes plan Stop (seals_within plan rings (after_seal plan ring t)) (after_seal plan ring t) →
-    Goes plan Stop (seals_within plan (ring ∷ rings) t) t
-goes-seals plan Stop ring rings t h k =
-    goes-append plan Stop (seal_within plan ring t) (seals_within plan rings (after_seal plan ring t)) t h
-    (subst (λ (u : Table). Goes plan Stop (seals_within plan rings (after_seal plan ring t)) u) (sym (seal-all_done plan ring t)) k)
-
--- a seal of an index page, or of variable data
-pub index-goes : (plan : Plan) (Stop : Core → Core → Type 0) (t : Table) → Stop (core t) (core t) → Goes plan Stop (seal_within plan IndexRing t) t
-index-goes plan Stop t h = by_dirty (is_dirty IndexRing (seal_buffer plan IndexRing t))
-  where
-    by_dirty : (b : Bool) → Goes plan Stop ((IndexRing, Body) ∷ (IndexRing, Mark) ∷ (cond b ((IndexRing, Erase) ∷ []) [])) t
-    by_dirty true = (h, h, (h, h, (h, h, tt)))
-    by_dirty false = (h, h, (h, h, tt))
-
-pub var-goes : (plan : Plan) (Stop : Core → Core → Type 0) (t : Table) → Stop (core t) (core t) → Goes plan Stop (seal_within plan VarRing t) t
-var-goes plan Stop t h = by_dirty (is_dirty VarRing (seal_buffer plan VarRing t))
-  where
-    by_dirty : (b : Bool) → Goes plan Stop ((VarRing, Body) ∷ (VarRing, Mark) ∷ (cond b ((VarRing, Erase) ∷ []) [])) t
-    by_dirty true = (h, h, (h, h, (h, h, tt)))
-    by_dirty false = (h, h, (h, h, tt))
-
--- a seal of a data page
-pub data-goes : (plan : Plan) (Stop : Core → Core → Type 0) (t : Table) →
-    let b = record (core t) { torn = true } in
-    let m = core (seal_buffer plan DataRing t) in
-    Stop (core t) (core t) → Stop (core t) b → Stop b b → Stop b m → Stop m m → Goes plan Stop (seal_within plan DataRing t) t
-data-goes plan Stop t here begins torn marks there = by_dirty (is_dirty DataRing (seal_buffer plan DataRing t))
-  where
-    by_dirty : (b : Bool) → Goes plan Stop ((DataRing, Body) ∷ (DataRing, Mark) ∷ (cond b ((DataRing, Erase) ∷ []) [])) t
-    by_dirty true = (here, begins, (torn, marks, (there, there, tt)))
-    by_dirty false = (here, begins, (torn, marks, tt))
-
--- a seal of a page of the log
-core-erased : (t : Table) → core (with_ring LogRing erased t) ≡ core t
-core-erased t = ap (λ (l : Option (List ℕ × Bool)). record (core t) { log = l }) (by_log t.log)
-  where
-    by_log : (o : Option Ring) → log_in (option_map erased o) ≡ log_in o
-    by_log None = refl
-    by_log (Some r) = refl
-
-pub log-goes : (plan : Plan) (Stop : Core → Core → Type 0) (t : Table) →
-    let b = core (with_ring LogRing begun t) in
-    let m = core (seal_buffer plan LogRing (with_ring LogRing begun t)) in
-    Stop (core t) (core t) → Stop (core t) b → Stop b b → Stop b m → Stop m m → Goes plan Stop (seal_within plan LogRing t) t
-log-goes plan Stop t here begins torn marks there = by_dirty (is_dirty LogRing (seal_buffer plan LogRing t))
-  where
-    m : Table
-    m = seal_buffer plan LogRing (with_ring LogRing begun t)
-
-    by_dirty : (b : Bool) → Goes plan Stop ((LogRing, Body) ∷ (LogRing, Mark) ∷ (cond b ((LogRing, Erase) ∷ []) [])) t
-    by_dirty true = (here, begins, (torn, marks, (there, subst (λ (d : Core). Stop (core m) d) (sym (core-erased m)) there, tt)))
-    by_dirty false = (here, begins, (torn, marks, tt))
-
--- ---- what the seals of a table leave
-
--- a data page is marked
-pub marked-by : (plan : Plan) (t : Table) → HasRoom plan → length t.rows.counts ≤ t.rows.next →
-    (h : IsMarked (core t) (core (seal_buffer plan DataRing t))) × (trimmed_in (core t) (core (seal_buffer plan DataRing t)) ≡ sum (take h.gone t.rows.counts))
-marked-by plan t room n =
-    let s = sealed-at (shape_of plan DataRing) t.pending t.rows (shape_ok plan room) in
-    let trims = trimmed-seals t.pending t.rows (sealed (shape_of plan DataRing) t.pending t.rows) s n in (
-      record {
-        gone = s.gone;
-        few = s.few;
-        counts = s.counts;
-        next = s.next;
-        torn = s.torn;
-        entries = ap (λ (g : ℕ). drop g t.entries) (sym (trimmed-sealed (shape_of plan DataRing) t.pending t.rows (shape_ok plan room) n) ∙ trims);
-        pending = refl;
-        logged = refl;
-        log = refl;
-      },
-      trims,
-    )
-
--- a session that stops: the table rests with the past that began just before, and so much is known of its sure records
-abbrev pub Stops : (Rows → Type 0) → Core → Core → Type 0
-Stops Q c d = RestsAs (past_in c (0 + trimmed_in c d)) (lost d) × Q (rows_in c)
-
-pub trimmed-none : (c d : Core) → d.counts ≡ c.counts → d.next ≡ c.next → 0 + trimmed_in c d ≡ 0
-trimmed-none c d e n =
-    let z : (d.next - length d.counts) - (c.next - length c.counts) ≡ 0 = rw (e, n) (omega arith) in
-    ap (λ k. 0 + sum (take k c.counts)) z ∙ ap (λ (cs : List ℕ). 0 + sum cs) (take_none c.counts)
-
--- the body of the data page: the log has all that is pending, so it may be torn
-torn-fine : (c : Core) → IsFine c → IsReady c → IsFine (record c { torn = true })
-torn-fine c fine h = record {
-  counted = fine.counted;
-  numbered = fine.numbered;
-  has_log = fine.has_log;
-  greatest = fine.greatest;
-  ascending = fine.ascending;
-  whole = inl (ready-owed c h ∙ sym h.same);
-  safe = fine.safe;
-}
-
-torn-ready : (c : Core) → IsReady c → IsReady (record c { torn = true })
-torn-ready c h = record { some = h.some; same = h.same; above = h.above }
+use Rattle.fl_machine.proofs.Logs.{Core, core, log_in, rest_of, owed_of, IsFine, front_of, EndsWhole, IsIdle, IsReady, IsJoining, Phase, Idle, Ready, Joining, IsThere}
+use Rattle.fl_machine.proofs.LogStops.{rests-here, joining-some}
+use Rattle.fl_machine.proofs.LogSeals.{IsMarked, sealed-at, marked-rests, marked-fine, marked-owed, marked-few, last-drop}
+use Rattle.fl_machine.proofs.LogWrites.{begun-fine, begun-joining, logged-ready, logged-fine, logged-rests}
+use Rattle.fl_machine.proofs.LogJoins.{joins, joins-fine, joins-ready, joins-idle}
+use Rattle.fl_machine.proofs.LogRepairs.{any-end}
+use Rattle.fl_machine.proofs.LogOperations.{trimmed_in, Goes, goes-append, goes-seals, index-goes, var-goes, data-goes, core-erased, log-goes, marked-by, Stops, trimmed-none, torn-fine, torn-ready}
 
 -- sealing the table
 abbrev pub seals_by : Bool → Bool → Bool → List RingName
@@ -194,37 +82,11 @@ open-between : {Q : Rows → Type 0} (t : Table) → Open Q (core t) → Between
 open-between t (Paid h) = paid-between t h
 open-between t (Filling fine ready ends kept) = Pending fine ready ends kept
 
-neither : (a b : Option Refusal) → or_else a b ≡ None → (a ≡ None) × (b ≡ None)
-neither None b e = (refl, e)
-neither (Some r) b e = absurd (none-some r (sym e))
-
-not_refused : (b : Bool) (r : Refusal) → refuse_if b r ≡ None → b ≡ false
-not_refused true r e = absurd (none-some r (sym e))
-not_refused false r e = refl
-
-or_left : (a b : Bool) → (a || b) ≡ false → a ≡ false
-or_left true b e = cc
-or_left false b e = refl
-
 abbrev pub IsGreater : Record → List Entry → Type 0
 IsGreater item entries = (w : Entry) → last_or None entries ≡ Some w → w.kept.key < item.key
 
 pub takes : (plan : Plan) (t : Table) (item : Record) → refusal_of plan t item ≡ None → IsGreater item t.entries × (is_rows_spent t ≡ false)
-takes plan t item h =
-    let a = neither (key_refusal t item.key) _ h in
-    let b = neither (refuse_if (not (length item.values == length plan.columns)) (BadColumns (length plan.columns))) _ a.1 in
-    let c = neither (value_refusal plan item) _ b.1 in
-    let d = neither (blob_refusal plan item) _ c.1 in
-    let spent = not_refused (is_spent t) Spent d.1 in
-    let v = or_left (is_rows_spent t || unwrap_or (option_map (λ (ring : Ring). nat_le 4294901760 ring.next) t.var) false) (unwrap_or (option_map (λ (ring : Ring). nat_le 4294901760 ring.next) t.log) false) spent in
-    (above (last_or None t.entries) a.0, or_left (is_rows_spent t) (unwrap_or (option_map (λ (ring : Ring). nat_le 4294901760 ring.next) t.var) false) v)
-  where
-    above : (o : Option Entry) → unwrap_or (option_map (λ (last : Entry). refuse_if (nat_le item.key last.kept.key) (BadKey last.kept.key)) o) None ≡ None → (w : Entry) → o ≡ Some w → w.kept.key < item.key
-    above None e w k = absurd (none-some w k)
-    above (Some x) e w k =
-        let less : x.kept.key < item.key = let n = not_refused (nat_le item.key x.kept.key) (BadKey x.kept.key) e in omega (arith, leb-false item.key x.kept.key n) in
-        let same : x ≡ w = cc in
-        subst (λ (y : Entry). y.kept.key < item.key) same less
+takes plan t item h = let a = accepted plan t item h in (a.above, a.unspent)
 
 greater-drop : (item : Record) (n : ℕ) (xs : List Entry) → IsGreater item xs → IsGreater item (drop n xs)
 greater-drop item n xs h w e = h w (last-drop n xs w e)
@@ -410,19 +272,9 @@ module _ (Q : Rows → Type 0) (lasting : IsLasting Q) where
   seals-append : (plan : Plan) (xs ys : List RingName) (t : Table) → Goes plan (Stops Q) (seals_within plan xs t) t → Goes plan (Stops Q) (seals_within plan ys (after_seals plan xs t)) (after_seals plan xs t) →
       Goes plan (Stops Q) (seals_within plan (xs ++ ys) t) t
   seals-append plan xs ys t h k =
-      subst (λ (ops : List (RingName × Kind)). Goes plan (Stops Q) ops t) (sym (within-append xs t))
+      subst (λ (ops : List (RingName × Kind)). Goes plan (Stops Q) ops t) (sym (within-append plan xs ys t))
       (goes-append plan (Stops Q) (seals_within plan xs t) (seals_within plan ys (after_seals plan xs t)) t h
       (subst (λ (u : Table). Goes plan (Stops Q) (seals_within plan ys (after_seals plan xs t)) u) (sym (seals-all_done plan xs t)) k))
-    where
-      assoc : {X : Type 0} (as' bs cs : List X) → (as' ++ bs) ++ cs ≡ as' ++ (bs ++ cs)
-      assoc [] bs cs = refl
-      assoc (a ∷ as') bs cs = ap (λ ws. a ∷ ws) (assoc as' bs cs)
-
-      within-append : (xs : List RingName) (t : Table) → seals_within plan (xs ++ ys) t ≡ seals_within plan xs t ++ seals_within plan ys (after_seals plan xs t)
-      within-append [] t = refl
-      within-append (x ∷ xs) t =
-          ap (λ (ops : List (RingName × Kind)). seal_within plan x t ++ ops) (within-append xs (after_seal plan x t))
-          ∙ sym (assoc (seal_within plan x t) (seals_within plan xs (after_seal plan x t)) (seals_within plan ys (after_seals plan xs (after_seal plan x t))))
 
   room-goes : (plan : Plan) (t : Table) (full : Bool) → HasRoom plan → Between Q t → Goes plan (Stops Q) (seals_within plan (cond full (table_seals plan t) []) t) t
   room-goes plan t true room h = flush-goes plan t room h

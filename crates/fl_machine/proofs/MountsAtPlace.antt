@@ -9,11 +9,12 @@ use Rattle.fl_model.specs.Ring.{Ring, erased}
 use Rattle.fl_model.specs.Work.{Body, Mark, operations_of, VoidMark, Erase, effect, Operation, done, Device, Progress, Outcome, Finished, CutShort, Failed, Performs, PerformsFirst, Leaves, Either, cut_now, counted, repair_operations, changed_by}
 use Rattle.fl_base.specs.declared.types.CutKind.{CutKind}
 use Rattle.fl_model.specs.Mount.{Turn, Of, Replay, turned, turn_operations, ready, Mounts, MountEnd, Mounted, Stopped, Unread, GoesOn, renumber, turned_at, operations_at, at_least_of}
+use Rattle.fl_model.proofs.Lists.{each-front}
 use Rattle.fl_machine.specs.Found.{HasRoom}
 use Rattle.fl_machine.proofs.Places.{RelAt, both-trans, both-weaker, rel-changed_by}
-use Rattle.fl_machine.proofs.Effects.{Numbered, StaysNumbered, SamePages, Trims, same-refl, same-trans, trims-same, same-trims, trims-then-same, numbered-same, renumber-other, renumber-trims, repair-trims}
+use Rattle.fl_machine.proofs.Effects.{Numbered, StaysNumbered, SamePages, Trims, same-refl, trims-same, same-trims, trims-then-same, numbered-same, renumber-other, renumber-trims, repair-trims}
 use Rattle.fl_machine.proofs.Trimmed.{renumbers-renumbered}
-use Rattle.fl_machine.proofs.Performed.{performs-numbered, performs-quiet, either_ending, ends-stay, IsOther, AllQuiet, rel-trans}
+use Rattle.fl_machine.proofs.Performed.{performs-numbered, performs-quiet, either_ending, ends-stay, IsOther, AllQuiet, rel-trans, same_trans, IsQuiet}
 
 -- a plan of the list
 pub room_at : (plans : List Plan) (n : ℕ) (plan : Plan) → AllByRecursion HasRoom plans → slice_get plans n ≡ Some plan → HasRoom plan
@@ -43,17 +44,13 @@ IsOtherTurn p Replay n = n ≢ p
 abbrev pub AtMostOneVoid : ℕ → List Operation → Type 0
 AtMostOneVoid p operations = AllQuiet p operations ⊎ ((others : List Operation) × (operations ≡ void_at p ∷ others) × AllQuiet p others)
 
-quiet_front : (p : ℕ) (front others : List Operation) → AllQuiet p (front ++ others) → AllQuiet p front
-quiet_front p [] others h = tt
-quiet_front p (operation ∷ front) others h = (h.0, quiet_front p front others h.1)
-
 one_void_front : (p : ℕ) (front others : List Operation) → AtMostOneVoid p (front ++ others) → AtMostOneVoid p front
 one_void_front p [] others h = inl tt
-one_void_front p (operation ∷ front) others (inl h) = inl (quiet_front p (operation ∷ front) others h)
+one_void_front p (operation ∷ front) others (inl h) = inl (each-front (IsQuiet p) (operation ∷ front) others h)
 one_void_front p (operation ∷ front) others (inr h) =
     let first : operation ≡ void_at p = cc (h.1) in
     let rest : front ++ others ≡ h.0 = cc (h.1) in
-    inr (front, ap (λ o. o ∷ front) first, quiet_front p front others (subst (AllQuiet p) (sym rest) h.2))
+    inr (front, ap (λ o. o ∷ front) first, each-front (IsQuiet p) front others (subst (AllQuiet p) (sym rest) h.2))
 
 repair_by : (p : ℕ) (torn dirty : Bool) → AtMostOneVoid p ((cond torn (void_at p ∷ []) []) ++ (cond dirty (record { table = p; ring = DataRing; kind = Erase } ∷ []) []))
 repair_by p true true = inr (record { table = p; ring = DataRing; kind = Erase } ∷ [], refl, (inr (refl, refl), tt))
@@ -152,9 +149,6 @@ trims_same_trans p xs ys zs h k = both-trans TrimsFrom SamePages TrimsFrom (λ x
 same_trims_trans : (p : ℕ) (xs ys zs : List Table) → RelAt SamePages p xs ys → RelAt TrimsFrom p ys zs → RelAt TrimsFrom p xs zs
 same_trims_trans p xs ys zs h k = both-trans SamePages TrimsFrom TrimsFrom (λ x y z a b n. same-trims x y z a (b (numbered-same x y a n))) _ _ _ h k
 
-same_same_trans : (p : ℕ) (xs ys zs : List Table) → RelAt SamePages p xs ys → RelAt SamePages p ys zs → RelAt SamePages p xs zs
-same_same_trans p xs ys zs h k = both-trans SamePages SamePages SamePages same-trans _ _ _ h k
-
 -- the first operation was done and the others go on, or it failed and left one of its ends
 performs-first : (plans : List Plan) (rose : Bool) (operation : Operation) (operations : List Operation) (device : Device) (tables : List Table) (end : Progress) →
     Performs plans rose (operation ∷ operations) device tables end →
@@ -192,7 +186,7 @@ turn-here plans rose operations device tables end p room (inr q) h =
 turn-other : (plans : List Plan) (rose : Bool) (operations : List Operation) (device : Device) (tables : List Table) (end : Progress) (p n : ℕ) (turn : Turn) → IsOtherTurn p turn n →
     AllQuiet p operations → Performs plans rose operations device (turned_at plans (n, turn) tables) end → RelAt SamePages p tables end.tables
 turn-other plans rose operations device tables end p n turn other q h =
-    same_same_trans p tables (turned_at plans (n, turn) tables) end.tables (renumbered-other plans p n turn tables other)
+    same_trans p tables (turned_at plans (n, turn) tables) end.tables (renumbered-other plans p n turn tables other)
     (performs-quiet plans rose operations device (turned_at plans (n, turn) tables) end p q h)
 
 -- the data ring at p has at most one turn, and none any more once it had it
@@ -216,7 +210,7 @@ trims_at p false start tables h = both-weaker SamePages TrimsFrom (λ x y s n. t
 
 phase-other : (p : ℕ) (had : Bool) (start tables after : List Table) → PhaseAt p had start tables → RelAt SamePages p tables after → PhaseAt p had start after
 phase-other p true start tables after h k = trims_same_trans p start tables after h k
-phase-other p false start tables after h k = same_same_trans p start tables after h k
+phase-other p false start tables after h k = same_trans p start tables after h k
 
 -- one turn
 turn : (plans : List Plan) (rose : Bool) (at : ℕ × Turn) (rings : List (ℕ × Turn)) (operations : List Operation) (device : Device) (tables start : List Table) (end : Progress) (p : ℕ) (had : Bool) →
@@ -254,7 +248,7 @@ mounts-leave plans rose (at ∷ rings) device start tables how p had room turns 
     let repairs = operations_at plans at (turned_at plans at tables) in
     let ends = performs-numbered plans rose unread.front device (turned_at plans at tables) h.0 p unread.did in
     let t = turn plans rose at rings unread.front device tables start h.0 p had room turns
-    (λ n turn e other. quiet_front p unread.front unread.others (subst (AllQuiet p) unread.split (turn_quiet plans p at (turned_at plans at tables) n turn e other)))
+    (λ n turn e other. each-front (IsQuiet p) unread.front unread.others (subst (AllQuiet p) unread.split (turn_quiet plans p at (turned_at plans at tables) n turn e other)))
     (λ n e. one_void_front p unread.front unread.others (subst (AtMostOneVoid p) unread.split (turn_void plans p at (turned_at plans at tables) e)))
     phase unread.did in
     subst (MountLeaves plans p start) (sym h.2) (

@@ -1,21 +1,19 @@
 -- Each mount that succeeds finds the records: by induction on the run.
-use Rattle.std.proofs.Common.{◌≡◌, ◌≢◌, ℕ, zero, suc, ◌+◌, ◌-◌, ◌<◌, ◌≤◌, Bool, true, false, cond, Some, List, [], ◌∷◌, ◌++◌, length, map, take, drop, refl, sym, ◌∙◌, ap, subst, arith, ◌⊎◌, inl, inr, length-drop, length-take}
+use Rattle.std.proofs.Common.{◌≡◌, ◌≢◌, ℕ, zero, suc, ◌+◌, ◌-◌, ◌<◌, Bool, true, false, cond, Some, List, [], ◌∷◌, ◌++◌, length, map, take, drop, refl, sym, ◌∙◌, ap, subst, arith, ◌⊎◌, inl, inr, length-drop}
 use Rattle.std.specs.List.{slice_get, AllByRecursion}
-use Rattle.std.proofs.lemmas.List.{drop-take, drop_all}
 use Rattle.std.proofs.Math.Seq.{take-length}
-use Rattle.std.proofs.lemmas.Bool.{cases_lt}
 use Rattle.fl_model.specs.Record.{Plan, has_index, has_var, has_log}
 use Rattle.fl_model.specs.Table.{Table, Entry, RingName, DataRing, IndexRing, VarRing, LogRing, lose}
 use Rattle.fl_model.specs.Work.{Kind, Body, Mark, VoidMark, Erase, effect, Operation, done, Leaves, Either}
 use Rattle.fl_model.specs.Mount.{Turn, Of, Replay, turns_from}
-use Rattle.fl_model.proofs.Lists.{take_none}
+use Rattle.fl_model.proofs.Lists.{drop-in-take}
 use Rattle.fl_machine.specs.Found.{trimmed, HasRoom}
 use Rattle.fl_machine.proofs.Places.{RelAt, both-refl, rel-changed_by}
 use Rattle.fl_machine.proofs.Effects.{Numbered, SamePages, same-refl, trims-same, effect-other, effect-body, effect-erase, effect-void, effect-mark}
 use Rattle.fl_machine.proofs.MountsAtPlace.{TrimsFrom, HasTurns, room_at}
 
 -- the turns of a configuration: the data ring at p has one turn, where the table has no log
-abbrev turns_by : ℕ → Bool → Bool → Bool → List (ℕ × Turn) → List (ℕ × Turn)
+abbrev pub turns_by : ℕ → Bool → Bool → Bool → List (ℕ × Turn) → List (ℕ × Turn)
 turns_by place a b l rest =
     map (λ (turn : Turn). (place, turn)) (map (λ (ring : RingName). Of ring) (cond a (IndexRing ∷ []) [] ++ DataRing ∷ [] ++ cond b (VarRing ∷ []) []) ++ cond l (Of LogRing ∷ Replay ∷ []) []) ++ rest
 
@@ -66,17 +64,6 @@ LosesTo old new =
     ((lose new).entries ≡ drop (trimmed old.rows new.rows) old.entries)
     ⊎ ((lose new).entries ≡ drop (trimmed old.rows new.rows) (take (length old.entries - old.pending) old.entries))
 
-take-drop : {X : Type 0} (n m : ℕ) (xs : List X) → take (m - n) (drop n xs) ≡ drop n (take m xs)
-take-drop n m xs = by_order (cases_lt m n)
-  where
-    by_order : (m < n) ⊎ (n ≤ m) → take (m - n) (drop n xs) ≡ drop n (take m xs)
-    by_order (inl lt) =
-        let none : m - n ≡ 0 = omega arith in
-        ap (λ k. take k (drop n xs)) none ∙ (take_none (drop n xs) ∙ sym (drop_all n (take m xs) (omega (arith, length-take m xs))))
-    by_order (inr le) =
-        let whole : n + (m - n) ≡ m = omega arith in
-        sym (drop-take n (m - n) xs) ∙ ap (λ k. drop n (take k xs)) whole
-
 loses-trims : (x y : Table) → TrimsFrom x y → LosesTo x y
 loses-trims x y t n =
     let h = t n in
@@ -84,7 +71,7 @@ loses-trims x y t n =
     inr (ap (λ (p : ℕ). take (length y.entries - p) y.entries) h.pending
     ∙ (ap (λ (es : List Entry). take (length es - x.pending) es) h.entries
     ∙ (ap (λ (m : ℕ). take m (drop k x.entries)) (let e : length (drop k x.entries) - x.pending ≡ (length x.entries - x.pending) - k = simp length-drop (omega arith) in e)
-    ∙ take-drop k (length x.entries - x.pending) x.entries)))
+    ∙ sym (drop-in-take k (length x.entries - x.pending) x.entries))))
 
 loses-same : (x y : Table) → SamePages x y → LosesTo x y
 loses-same x y h = loses-trims x y (λ n. trims-same x y h)

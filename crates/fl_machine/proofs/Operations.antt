@@ -13,9 +13,10 @@ use Rattle.fl_words.specs.Command as command
 use Rattle.fl_words.specs.Command.{Command}
 use Rattle.fl_words.specs.Reply as reply
 use Rattle.fl_words.specs.Reply.{Reply}
-use Rattle.fl_machine.specs.Machine.{Machine, OpenCursor}
-use Rattle.fl_machine.specs.Step.{Moment, StepOf, Says, EndsAs, EndsMount, WithTable, Located, located, LoadsFrom, LoadsOn, NextStep, cursor_at, no_column, load_record, refused}
+use Rattle.fl_machine.specs.Machine.{Machine}
+use Rattle.fl_machine.specs.Step.{Moment, StepOf, Says, EndsAs, EndsMount, WithTable, Located, located, LoadsFrom, LoadsOn, load_record, refused}
 use Rattle.fl_machine.specs.Operations.{programs_in, erases_in, unless_refused, of_table, load_operations, mount_operations, accepted_operations, of_located, operations_by, CountsOperations, CountsFront, CountsMoment, OperationsAreExact}
+use Rattle.fl_machine.proofs.StepCases.{IsQuiet, quiet-step}
 use Rattle.fl_machine.proofs.Determined.{cut-not-finished, failed-not-finished, not-both}
 
 -- nothing fails in a moment
@@ -198,11 +199,6 @@ says-none : (old : Machine) (m : Moment) (replies : List Reply) (new : Machine) 
 says-none old m replies new h p e =
     does-all m old.device [] (counts-none old.device m.after.device (ap (λ (x : Machine). x.device.programs) h.after_is ∙ p) (ap (λ (x : Machine). x.device.erases) h.after_is ∙ e))
 
-after-none : (old : Machine) (m : Moment) (new : Machine) → m.after ≡ new → new.device ≡ old.device → Counted old [] m
-after-none old m new h d =
-    does-all m old.device []
-    (counts-none old.device m.after.device (ap (λ (x : Machine). x.device.programs) h ∙ ap (λ (x : Device). x.programs) d) (ap (λ (x : Machine). x.device.erases) h ∙ ap (λ (x : Device). x.erases) d))
-
 -- a command that is a list of operations
 operations-counted : (plans : List Plan) (old : Machine) (m : Moment) (operations : List Operation) (ok : List Reply) (new : Progress → Machine) → ((end : Progress) → (new end).device ≡ end.device) →
     ((end : Progress) × Performs plans m.rose operations old.device old.tables end × EndsAs end.outcome old m end [] ok (new end)) → Counted old operations m
@@ -361,69 +357,36 @@ on-table config old name m P f h go = by_cases old.mounted (located config old n
     by_cases true (Some at) h = go at h
     by_cases false o h = says-none old m (reply.NotMounted ∷ []) old h refl refl
 
--- .. that does no operation
-off-table : (config : Config) (old : Machine) (name : List ℕ) (m : Moment) (P : Located → Type 0) → WithTable config old m name P → ((at : Located) → P at → Counted old [] m) → Counted old [] m
-off-table config old name m P h go = by_cases old.mounted (located config old name) h
-  where
-    by_cases : (b : Bool) (o : Option Located) → MatchBool b (MatchOption o (Says m (reply.NoTable ∷ []) old) P) (Says m (reply.NotMounted ∷ []) old) → Counted old [] m
-    by_cases true None h = says-none old m (reply.NoTable ∷ []) old h refl refl
-    by_cases true (Some at) h = go at h
-    by_cases false o h = says-none old m (reply.NotMounted ∷ []) old h refl refl
-
-on-columns : (old : Machine) (m : Moment) (o : Option ℕ) (P : Type 0) → MatchOption o P (λ column. Says m (reply.NoColumn column ∷ []) old) → (P → Counted old [] m) → Counted old [] m
-on-columns old m None P h go = go h
-on-columns old m (Some column) P h go = says-none old m (reply.NoColumn column ∷ []) old h refl refl
-
-on-cursor : (old : Machine) (n : ℕ) (m : Moment) (P : OpenCursor → Type 0) →
-    MatchBool old.mounted (MatchOption (cursor_at old n) (Says m (reply.NoCursor ∷ []) old) P) (Says m (reply.NotMounted ∷ []) old) →
-    ((open_cursor : OpenCursor) → P open_cursor → Counted old [] m) → Counted old [] m
-on-cursor old n m P h go = by_cases old.mounted (cursor_at old n) h
-  where
-    by_cases : (b : Bool) (o : Option OpenCursor) → MatchBool b (MatchOption o (Says m (reply.NoCursor ∷ []) old) P) (Says m (reply.NotMounted ∷ []) old) → Counted old [] m
-    by_cases true None h = says-none old m (reply.NoCursor ∷ []) old h refl refl
-    by_cases true (Some open_cursor) h = go open_cursor h
-    by_cases false o h = says-none old m (reply.NotMounted ∷ []) old h refl refl
-
--- a cursor without a plan or a table gives nothing
-or-nothing : (old : Machine) (m : Moment) (p : Option Plan) (t : Option Table) (P : Plan → Table → Type 0) →
-    MatchOption p (Says m [] old) (λ plan. MatchOption t (Says m [] old) (λ table. P plan table)) → ((plan : Plan) (table : Table) → P plan table → Counted old [] m) → Counted old [] m
-or-nothing old m None t P h go = says-none old m [] old h refl refl
-or-nothing old m (Some plan) None P h go = says-none old m [] old h refl refl
-or-nothing old m (Some plan) (Some table) P h go = go plan table h
-
-next-none : (config : Config) (old : Machine) (m : Moment) (n count : ℕ) (open_cursor : OpenCursor) → NextStep config old m n count open_cursor → Counted old [] m
-next-none config old m n count open_cursor h =
-    or-nothing old m (slice_get config.plans open_cursor.table) (slice_get old.tables open_cursor.table) _ h
-    (λ plan table (last, (g, within, after, ends)). after-none old m _ after refl)
+-- .. and one that does no operation
+quiet-none : (config : Config) (old : Machine) (m : Moment) (c : Command) → IsQuiet c → StepOf config old m c → Counted old [] m
+quiet-none config old m c quiet h =
+    let left = quiet-step config old m c quiet h in
+    does-all m old.device [] (counts-none old.device m.after.device left.programs left.erases)
 
 -- each step
 step-counted : (config : Config) (old : Machine) (m : Moment) (c : Command) → StepOf config old m c → Counted old (operations_by config old c) m
-step-counted config old m command.Nothing h = says-none old m [] old h refl refl
+step-counted config old m command.Nothing h = quiet-none config old m command.Nothing tt h
 step-counted config old m command.Mount h = mount-counted config old m old.mounted h
 step-counted config old m command.Off h = says-none old m (reply.Done ∷ []) _ h refl refl
-step-counted config old m (command.Cut n kind) h = says-none old m (reply.Done ∷ []) _ h refl refl
+step-counted config old m (command.Cut n kind) h = quiet-none config old m (command.Cut n kind) tt h
 step-counted config old m (command.Put name key values blob) h =
     let item : Record = record { key = key; values = values; blob = blob } in
     on-table config old name m _ _ h (λ at p. put-counted config old m item at (refusal_of at.plan at.table item) p)
 step-counted config old m (command.Flush name) h =
     on-table config old name m _ _ h
     (λ at p. operations-counted config.plans old m (operations_of at.plan at.place (table_seals at.plan at.table) at.table) (reply.Done ∷ []) _ (λ end. refl) p)
-step-counted config old m (command.Get name key) h = off-table config old name m _ h (λ at p. after-none old m _ p.0 refl)
-step-counted config old m (command.Blob name key) h = off-table config old name m _ h (λ at p. after-none old m _ p.0 refl)
-step-counted config old m (command.Scan name range span) h = off-table config old name m _ h (λ at p. after-none old m _ p.0 refl)
-step-counted config old m (command.Open cursor name range span) h = off-table config old name m _ h (λ at p. says-none old m (reply.Done ∷ []) _ p refl refl)
-step-counted config old m (command.Next cursor count) h = on-cursor old cursor m _ h (λ open_cursor p. next-none config old m cursor count open_cursor p)
-step-counted config old m (command.Close cursor) h = on-cursor old cursor m _ h (λ open_cursor p. says-none old m (reply.Done ∷ []) _ p refl refl)
-step-counted config old m (command.Select name range column op value) h =
-    off-table config old name m _ h (λ at p. on-columns old m (no_column at.plan (column ∷ [])) _ p (λ q. after-none old m _ q.0 refl))
-step-counted config old m (command.Project name range columns) h =
-    off-table config old name m _ h (λ at p. on-columns old m (no_column at.plan columns) _ p (λ q. after-none old m _ q.0 refl))
-step-counted config old m (command.Agg name range column width) h =
-    off-table config old name m _ h (λ at p. on-columns old m (no_column at.plan (column ∷ [])) _ p (λ q. after-none old m _ q.0 refl))
-step-counted config old m (command.Join left right range) h =
-    off-table config old left m _ h (λ a p. off-table config old right m _ p (λ b q. after-none old m _ q.0 refl))
-step-counted config old m (command.Stat name) h = off-table config old name m _ h (λ at p. says-none old m _ old p refl refl)
-step-counted config old m command.Cost h = says-none old m _ old h refl refl
+step-counted config old m (command.Get name key) h = quiet-none config old m (command.Get name key) tt h
+step-counted config old m (command.Blob name key) h = quiet-none config old m (command.Blob name key) tt h
+step-counted config old m (command.Scan name range span) h = quiet-none config old m (command.Scan name range span) tt h
+step-counted config old m (command.Open cursor name range span) h = quiet-none config old m (command.Open cursor name range span) tt h
+step-counted config old m (command.Next cursor count) h = quiet-none config old m (command.Next cursor count) tt h
+step-counted config old m (command.Close cursor) h = quiet-none config old m (command.Close cursor) tt h
+step-counted config old m (command.Select name range column op value) h = quiet-none config old m (command.Select name range column op value) tt h
+step-counted config old m (command.Project name range columns) h = quiet-none config old m (command.Project name range columns) tt h
+step-counted config old m (command.Agg name range column width) h = quiet-none config old m (command.Agg name range column width) tt h
+step-counted config old m (command.Join left right range) h = quiet-none config old m (command.Join left right range) tt h
+step-counted config old m (command.Stat name) h = quiet-none config old m (command.Stat name) tt h
+step-counted config old m command.Cost h = quiet-none config old m command.Cost tt h
 step-counted config old m (command.Load name count step seed) h =
     on-table config old name m _ _ h (λ at p. loads-counted config old m at.plan at.place step seed count 1 (next_random seed) 0 old.device old.tables p)
 step-counted config old m (command.Device page block) h = absurd h

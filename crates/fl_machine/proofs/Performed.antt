@@ -1,13 +1,14 @@
 -- What lists of operations leave at one place, whether they end or one fails.
-use Rattle.std.proofs.Common.{◌≡◌, ◌≢◌, ℕ, Bool, cond, Option, Some, None, List, [], ◌∷◌, sym, ◌∙◌, subst, ◌⊎◌, inl, inr}
-use Rattle.std.specs.List.{slice_get}
+use Rattle.std.proofs.Common.{◌≡◌, ◌≢◌, ℕ, Bool, cond, Option, Some, None, List, [], ◌∷◌, sym, subst, ◌⊎◌, inl, inr}
+use Rattle.std.specs.List.{slice_get, AllByRecursion}
 use Rattle.fl_base.specs.declared.types.CutKind.{CutKind}
 use Rattle.fl_model.specs.Record.{Record, Plan}
 use Rattle.fl_model.specs.Table.{Table, RingName, DataRing, IndexRing, VarRing, LogRing, put_joined, put_record, join_seals, make_room_seals}
 use Rattle.fl_model.specs.Puts.{Puts, PutGoesOn, room_operations, join_operations}
 use Rattle.fl_model.specs.Work.{Kind, Erase, effect, Operation, done, Ending, AsBefore, AsAfter, Either, Leaves, ending_of, Device, Progress, Outcome, Finished, CutShort, Failed, Performs, PerformsFirst, cut_now, counted, changed_at}
+use Rattle.fl_model.proofs.Lists.{each-weaker}
 use Rattle.fl_machine.proofs.Places.{RelAt, both-refl, both-trans, rel-changed_by, rel-changed_at}
-use Rattle.fl_machine.proofs.Effects.{StaysNumbered, SamePages, same-refl, effect-other, effect-numbered, effect-erase, after_seals-numbered}
+use Rattle.fl_machine.proofs.Effects.{StaysNumbered, SamePages, same-refl, same-trans, effect-other, effect-numbered, effect-erase, after_seals-numbered}
 
 -- either end of an operation
 pub leaves_either : {S : Type 0} (ending : Ending) (before after left : S) → Leaves ending before after left → Leaves Either before after left
@@ -27,6 +28,9 @@ EndsNumbered plans p start left Finished = RelAt StaysNumbered p start left
 EndsNumbered plans p start left (CutShort last) = FailsAt plans p start last left
 EndsNumbered plans p start left (Failed last) = FailsAt plans p start last left
 
+pub same_trans : (p : ℕ) (xs ys zs : List Table) → RelAt SamePages p xs ys → RelAt SamePages p ys zs → RelAt SamePages p xs zs
+same_trans p xs ys zs h k = both-trans SamePages SamePages SamePages same-trans _ _ _ h k
+
 numbered_trans : (x y z : Table) → StaysNumbered x y → StaysNumbered y z → StaysNumbered x z
 numbered_trans x y z h k n = k (h n)
 
@@ -44,6 +48,23 @@ ends-after plans p start mid left (Failed last) h k = record { numbered = rel-tr
 
 pub either_ending : (b : Bool) (kind : CutKind) (k : Kind) (before after left : List Table) → Leaves (cond b Either (ending_of kind k)) before after left → Leaves Either before after left
 either_ending b kind k before after left h = leaves_either (cond b Either (ending_of kind k)) before after left h
+
+-- operations each of which keeps the tables so keep them so together, however they end
+module _ (R : List Table → List Table → Type 0) (same : (xs : List Table) → R xs xs) (join : (xs ys zs : List Table) → R xs ys → R ys zs → R xs zs) (plans : List Plan) (rose : Bool) where
+  pub performs-rel : (operations : List Operation) (device : Device) (tables : List Table) (end : Progress) → AllByRecursion (λ o. (xs : List Table) → R xs (done plans o xs)) operations →
+      Performs plans rose operations device tables end → R tables end.tables
+  performs-rel [] device tables end all h = subst (R tables) (sym h.2) (same tables)
+  performs-rel (o ∷ operations) device tables end all h = first (cut_now device) h (performs-rel operations (counted o.kind device) (done plans o tables) end all.1)
+    where
+      left : Leaves Either tables (done plans o tables) end.tables → R tables end.tables
+      left (inl e) = subst (R tables) (sym e) (same tables)
+      left (inr e) = subst (R tables) (sym e) (all.0 tables)
+
+      first : (now : Option CutKind) → PerformsFirst plans rose now o device tables end (Performs plans rose operations (counted o.kind device) (done plans o tables) end) →
+          (Performs plans rose operations (counted o.kind device) (done plans o tables) end → R (done plans o tables) end.tables) → R tables end.tables
+      first (Some kind) h go = left (either_ending rose kind o.kind tables (done plans o tables) end.tables h.2)
+      first None (inl h) go = left h.3
+      first None (inr h) go = join tables (done plans o tables) end.tables (all.0 tables) (go h)
 
 -- no page number is negative after an operation that failed, and after operations however they ended
 pub left-numbered : (plans : List Plan) (p : ℕ) (start last left : List Table) → FailsAt plans p start last left → RelAt StaysNumbered p last left
@@ -117,23 +138,12 @@ effect-elsewhere p n plan IndexRing kind x h e = effect-other plan IndexRing kin
 effect-elsewhere p n plan VarRing kind x h e = effect-other plan VarRing kind x (λ e. cc)
 effect-elsewhere p n plan LogRing kind x h e = effect-other plan LogRing kind x (λ e. cc)
 
-abbrev pub AllOther : ℕ → List Operation → Type 0
-AllOther p [] = Unit {0}
-AllOther p (operation ∷ operations) = IsOther p operation.ring operation.table × AllOther p operations
-
-same_trans : (p : ℕ) (xs ys zs : List Table) → RelAt SamePages p xs ys → RelAt SamePages p ys zs → RelAt SamePages p xs zs
-same_trans p xs ys zs h k = both-trans SamePages SamePages SamePages Effects-trans _ _ _ h k
-  where
-    Effects-trans : (x y z : Table) → SamePages x y → SamePages y z → SamePages x z
-    Effects-trans x y z h k = record { entries = k.entries ∙ h.entries; pending = k.pending ∙ h.pending; counts = k.counts ∙ h.counts; next = k.next ∙ h.next }
-
 -- operations none of which is on the data ring at p, or erases alone, leave its pages, also where one fails
 abbrev pub IsQuiet : ℕ → Operation → Type 0
 IsQuiet p operation = IsOther p operation.ring operation.table ⊎ ((operation.ring ≡ DataRing) × (operation.kind ≡ Erase))
 
 abbrev pub AllQuiet : ℕ → List Operation → Type 0
-AllQuiet p [] = Unit {0}
-AllQuiet p (operation ∷ operations) = IsQuiet p operation × AllQuiet p operations
+AllQuiet p operations = AllByRecursion (IsQuiet p) operations
 
 pub done-quiet : (plans : List Plan) (p : ℕ) (operation : Operation) (tables : List Table) → IsQuiet p operation → RelAt SamePages p tables (done plans operation tables)
 done-quiet plans p operation tables h =
@@ -145,17 +155,6 @@ done-quiet plans p operation tables h =
 
 pub performs-quiet : (plans : List Plan) (rose : Bool) (operations : List Operation) (device : Device) (tables : List Table) (end : Progress) (p : ℕ) →
     AllQuiet p operations → Performs plans rose operations device tables end → RelAt SamePages p tables end.tables
-performs-quiet plans rose [] device tables end p q h = subst (λ (ts : List Table). RelAt SamePages p tables ts) (sym h.2) (both-refl SamePages same-refl (slice_get tables p))
-performs-quiet plans rose (operation ∷ operations) device tables end p q h =
-    first (cut_now device) h (performs-quiet plans rose operations (counted operation.kind device) (done plans operation tables) end p q.1)
-  where
-    left : Leaves Either tables (done plans operation tables) end.tables → RelAt SamePages p tables end.tables
-    left (inl e) = subst (λ (ts : List Table). RelAt SamePages p tables ts) (sym e) (both-refl SamePages same-refl (slice_get tables p))
-    left (inr e) = subst (λ (ts : List Table). RelAt SamePages p tables ts) (sym e) (done-quiet plans p operation tables q.0)
-
-    first : (now : Option CutKind) → PerformsFirst plans rose now operation device tables end (Performs plans rose operations (counted operation.kind device) (done plans operation tables) end) →
-        (Performs plans rose operations (counted operation.kind device) (done plans operation tables) end → RelAt SamePages p (done plans operation tables) end.tables) →
-        RelAt SamePages p tables end.tables
-    first (Some kind) h go = left (either_ending rose kind operation.kind tables (done plans operation tables) end.tables h.2)
-    first None (inl h) go = left h.3
-    first None (inr h) go = same_trans p tables (done plans operation tables) end.tables (done-quiet plans p operation tables q.0) (go h)
+performs-quiet plans rose operations device tables end p q h =
+    performs-rel (RelAt SamePages p) (λ xs. both-refl SamePages same-refl (slice_get xs p)) (same_trans p) plans rose operations device tables end
+    (each-weaker (IsQuiet p) (λ o. (xs : List Table) → RelAt SamePages p xs (done plans o xs)) (λ o q xs. done-quiet plans p o xs q) operations q) h

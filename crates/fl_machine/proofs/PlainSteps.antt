@@ -73,15 +73,29 @@ mounts-rings plans (at ∷ rings) device tables =
 says-says : (c : Command) (old new : Machine) (replies : List Reply) → Says (says c replies new) replies new
 says-says c old new replies = record { replies_are = refl; after_is = refl; last_is = refl }
 
+-- what is so of each moment that says and of each that stops
+record Moments (c : Command) (P : Moment → Type 0) : Type 0 where
+  says_so : (replies : List Reply) (new : Machine) → P (says c replies new)
+  stops_so : (old : Machine) (end : Progress) (last : List Table) (replies : List Reply) → P (stops c old end last replies)
+
+abbrev IsCalm : Moment → Type 0
+IsCalm m = m.rose ≡ false
+
+calm : (c : Command) → Moments c IsCalm
+calm c = record { says_so = λ replies new. refl; stops_so = λ old end last replies. refl }
+
+commands : (c : Command) → Moments c (λ m. m.command ≡ c)
+commands c = record { says_so = λ replies new. refl; stops_so = λ old end last replies. refl }
+
+ends-so : (c : Command) (P : Moment → Type 0) → Moments c P → (o : Outcome) (old new : Machine) (end : Progress) (before ok : List Reply) → P (ends_as c o old end before ok new)
+ends-so c P so Finished old new end before ok = so.says_so (before ++ ok) new
+ends-so c P so (CutShort last) old new end before ok = so.stops_so old end last _
+ends-so c P so (Failed last) old new end before ok = so.stops_so old end last _
+
 ends-ends : (c : Command) (o : Outcome) (old new : Machine) (end : Progress) (before ok : List Reply) → EndsAs o old (ends_as c o old end before ok new) end before ok new
 ends-ends c Finished old new end before ok = says-says c old new (before ++ ok)
 ends-ends c (CutShort last) old new end before ok = record { replies_are = refl; after_is = refl; last_is = refl }
 ends-ends c (Failed last) old new end before ok = record { replies_are = refl; after_is = refl; last_is = refl }
-
-ends-rose : (c : Command) (o : Outcome) (old new : Machine) (end : Progress) (before ok : List Reply) → (ends_as c o old end before ok new).rose ≡ false
-ends-rose c Finished old new end before ok = refl
-ends-rose c (CutShort last) old new end before ok = refl
-ends-rose c (Failed last) old new end before ok = refl
 
 on-table : (config : Config) (c : Command) (old : Machine) (name : List ℕ) (f : Located → Moment) (P : Moment → Located → Type 0) → ((at : Located) → P (f at) at) →
     WithTable config old (on_table config c old name f) name (λ at. P (on_table config c old name f) at)
@@ -113,7 +127,7 @@ performed : (config : Config) (c : Command) (old : Machine) (new : Progress → 
 performed config c old new operations before ok =
     let end = perform config.plans operations old.device old.tables in (
       end,
-      subst (λ (r : Bool). Performs config.plans r operations old.device old.tables end) (sym (ends-rose c end.outcome old (new end) end before ok)) (performs-perform config.plans operations old.device old.tables),
+      subst (λ (r : Bool). Performs config.plans r operations old.device old.tables end) (sym (ends-so c IsCalm (calm c) end.outcome old (new end) end before ok)) (performs-perform config.plans operations old.device old.tables),
       ends-ends c end.outcome old (new end) end before ok,
     )
 
@@ -130,7 +144,7 @@ put-step config c old item at = by_refusal (refusal_of at.plan at.table item)
         let end = put_performs config.plans at.plan at.place item at.table old.device old.tables in
         let new = record old { device = end.device; tables = changed_at at.place (put_record at.plan item) old.tables } in (
           end,
-          subst (λ (r : Bool). Puts config.plans r at.plan at.place item at.table old.device old.tables end) (sym (ends-rose c end.outcome old new end [] (reply.Done ∷ [])))
+          subst (λ (r : Bool). Puts config.plans r at.plan at.place item at.table old.device old.tables end) (sym (ends-so c IsCalm (calm c) end.outcome old new end [] (reply.Done ∷ [])))
               (puts-perform config.plans at.plan at.place item at.table old.device old.tables),
           ends-ends c end.outcome old new end [] (reply.Done ∷ []),
         )
@@ -150,7 +164,7 @@ mount-step config old = by_test old.mounted
 
     rose : (how : MountEnd) → (ends_mount config old how).rose ≡ false
     rose (Mounted end) = refl
-    rose (Stopped end) = ends-rose command.Mount end.outcome old old end [] []
+    rose (Stopped end) = ends-so command.Mount IsCalm (calm command.Mount) end.outcome old old end [] []
     rose (Unread end) = refl
 
     by_test : (b : Bool) → let m = cond b (says command.Mount (reply.AlreadyMounted ∷ []) old) (ends_mount config old (mount_turns config.plans (turns_from 0 config.plans) old.device old.tables)) in
@@ -203,29 +217,29 @@ says-eq c old new replies m e = subst (λ (n : Moment). Says n replies new) (sym
 stops-eq : (c : Command) (old : Machine) (end : Progress) (last : List Table) (replies : List Reply) (m : Moment) → m ≡ stops c old end last replies → Stops old m end last replies
 stops-eq c old end last replies m e = subst (λ (n : Moment). Stops old n end last replies) (sym e) (record { replies_are = refl; after_is = refl; last_is = refl })
 
-loads-rose : (config : Config) (c : Command) (old : Machine) (plan : Plan) (place step seed turns i s loaded : ℕ) (device : Device) (tables : List Table) →
-    (loads_from config c old plan place step seed turns i s loaded device tables).rose ≡ false
-loads-rose config c old plan place step seed zero i s loaded device tables = refl
-loads-rose config c old plan place step seed (suc turns) i s loaded device tables =
-    by_table (slice_get tables place) (λ d ts. loads-rose config c old plan place step seed turns (i + 1) (next_random s) (loaded + 1) d ts)
+loads-so : (config : Config) (c : Command) (P : Moment → Type 0) → Moments c P → (old : Machine) (plan : Plan) (place step seed turns i s loaded : ℕ) (device : Device) (tables : List Table) →
+    P (loads_from config c old plan place step seed turns i s loaded device tables)
+loads-so config c P so old plan place step seed zero i s loaded device tables = so.says_so _ _
+loads-so config c P so old plan place step seed (suc turns) i s loaded device tables =
+    by_table (slice_get tables place) (λ d ts. loads-so config c P so old plan place step seed turns (i + 1) (next_random s) (loaded + 1) d ts)
   where
-    by_outcome : (o : Outcome) (end : Progress) (others : Moment) → others.rose ≡ false → (loads_on c o old end loaded others).rose ≡ false
+    by_outcome : (o : Outcome) (end : Progress) (others : Moment) → P others → P (loads_on c o old end loaded others)
     by_outcome Finished end others h = h
-    by_outcome (CutShort last) end others h = refl
-    by_outcome (Failed last) end others h = refl
+    by_outcome (CutShort last) end others h = so.stops_so old end last _
+    by_outcome (Failed last) end others h = so.stops_so old end last _
 
-    by_refusal : (o : Option Refusal) (m : Moment) → m.rose ≡ false → (load_on c old loaded device tables o m).rose ≡ false
+    by_refusal : (o : Option Refusal) (m : Moment) → P m → P (load_on c old loaded device tables o m)
     by_refusal None m h = h
-    by_refusal (Some refusal) m h = refl
+    by_refusal (Some refusal) m h = so.says_so _ _
 
-    by_table : (o : Option Table) → ((d : Device) (ts : List Table) → (loads_from config c old plan place step seed turns (i + 1) (next_random s) (loaded + 1) d ts).rose ≡ false) →
-        (or_stuck c old device tables o (λ table.
+    by_table : (o : Option Table) → ((d : Device) (ts : List Table) → P (loads_from config c old plan place step seed turns (i + 1) (next_random s) (loaded + 1) d ts)) →
+        P (or_stuck c old device tables o (λ table.
         let item = load_record plan table step seed i s in
         load_on c old loaded device tables (refusal_of plan table item)
         (let end = put_performs config.plans plan place item table device tables in
         loads_on c end.outcome old end loaded
-        (loads_from config c old plan place step seed turns (i + 1) (next_random s) (loaded + 1) end.device (changed_at place (put_record plan item) tables))))).rose ≡ false
-    by_table None h = refl
+        (loads_from config c old plan place step seed turns (i + 1) (next_random s) (loaded + 1) end.device (changed_at place (put_record plan item) tables)))))
+    by_table None h = so.says_so _ _
     by_table (Some table) h =
         let item = load_record plan table step seed i s in
         let end = put_performs config.plans plan place item table device tables in
@@ -342,7 +356,7 @@ plain-steps config old (command.Load name count step seed) h =
     let c = command.Load name count step seed in
     on-table config c old name _ (λ m at. LoadStep config old m count step seed at)
     (λ at. loads-steps config c old at.plan at.place step seed count 1 (next_random seed) 0 old.device old.tables _ refl
-    (loads-rose config c old at.plan at.place step seed count 1 (next_random seed) 0 old.device old.tables))
+    (loads-so config c IsCalm (calm c) old at.plan at.place step seed count 1 (next_random seed) 0 old.device old.tables))
 plain-steps config old (command.Device page block) h = absurd h
 plain-steps config old (command.Table line) h = absurd h
 
@@ -355,17 +369,12 @@ on_table-of config c old name f h = by_cases old.mounted (located config old nam
     by_cases true (Some at) = h at
     by_cases false o = refl
 
-ends-of : (c : Command) (o : Outcome) (old new : Machine) (end : Progress) (before ok : List Reply) → (ends_as c o old end before ok new).command ≡ c
-ends-of c Finished old new end before ok = refl
-ends-of c (CutShort last) old new end before ok = refl
-ends-of c (Failed last) old new end before ok = refl
-
 mount-of : (config : Config) (old : Machine) → (mounts config old).command ≡ command.Mount
 mount-of config old = by_test old.mounted
   where
     by_end : (how : MountEnd) → (ends_mount config old how).command ≡ command.Mount
     by_end (Mounted end) = refl
-    by_end (Stopped end) = ends-of command.Mount end.outcome old old end [] []
+    by_end (Stopped end) = ends-so command.Mount (λ m. m.command ≡ command.Mount) (commands command.Mount) end.outcome old old end [] []
     by_end (Unread end) = refl
 
     by_test : (b : Bool) → (cond b (says command.Mount (reply.AlreadyMounted ∷ []) old) (ends_mount config old (mount_turns config.plans (turns_from 0 config.plans) old.device old.tables))).command ≡ command.Mount
@@ -376,12 +385,12 @@ put-of : (config : Config) (c : Command) (old : Machine) (item : Record) (at : L
 put-of config c old item at (Some refusal) = refl
 put-of config c old item at None =
     let end = put_performs config.plans at.plan at.place item at.table old.device old.tables in
-    ends-of c end.outcome old (record old { device = end.device; tables = changed_at at.place (put_record at.plan item) old.tables }) end [] (reply.Done ∷ [])
+    ends-so c (λ m. m.command ≡ c) (commands c) end.outcome old (record old { device = end.device; tables = changed_at at.place (put_record at.plan item) old.tables }) end [] (reply.Done ∷ [])
 
 flush-of : (config : Config) (c : Command) (old : Machine) (at : Located) → (flushes config c old at).command ≡ c
 flush-of config c old at =
     let end = perform config.plans (operations_of at.plan at.place (table_seals at.plan at.table) at.table) old.device old.tables in
-    ends-of c end.outcome old (record old { device = end.device; tables = changed_at at.place (flushed at.plan) old.tables }) end [] (reply.Done ∷ [])
+    ends-so c (λ m. m.command ≡ c) (commands c) end.outcome old (record old { device = end.device; tables = changed_at at.place (flushed at.plan) old.tables }) end [] (reply.Done ∷ [])
 
 columns-of : (c : Command) (old : Machine) (o : Option ℕ) (m : Moment) → m.command ≡ c → (on_columns c old o m).command ≡ c
 columns-of c old None m h = h
@@ -403,34 +412,6 @@ next-of config c old n count open_cursor None t = refl
 next-of config c old n count open_cursor (Some plan) None = refl
 next-of config c old n count open_cursor (Some plan) (Some table) = refl
 
-loads-of : (config : Config) (c : Command) (old : Machine) (plan : Plan) (place step seed turns i s loaded : ℕ) (device : Device) (tables : List Table) →
-    (loads_from config c old plan place step seed turns i s loaded device tables).command ≡ c
-loads-of config c old plan place step seed zero i s loaded device tables = refl
-loads-of config c old plan place step seed (suc turns) i s loaded device tables =
-    by_table (slice_get tables place) (λ d ts. loads-of config c old plan place step seed turns (i + 1) (next_random s) (loaded + 1) d ts)
-  where
-    by_outcome : (o : Outcome) (end : Progress) (others : Moment) → others.command ≡ c → (loads_on c o old end loaded others).command ≡ c
-    by_outcome Finished end others h = h
-    by_outcome (CutShort last) end others h = refl
-    by_outcome (Failed last) end others h = refl
-
-    by_refusal : (o : Option Refusal) (m : Moment) → m.command ≡ c → (load_on c old loaded device tables o m).command ≡ c
-    by_refusal None m h = h
-    by_refusal (Some refusal) m h = refl
-
-    by_table : (o : Option Table) → ((d : Device) (ts : List Table) → (loads_from config c old plan place step seed turns (i + 1) (next_random s) (loaded + 1) d ts).command ≡ c) →
-        (or_stuck c old device tables o (λ table.
-        let item = load_record plan table step seed i s in
-        load_on c old loaded device tables (refusal_of plan table item)
-        (let end = put_performs config.plans plan place item table device tables in
-        loads_on c end.outcome old end loaded
-        (loads_from config c old plan place step seed turns (i + 1) (next_random s) (loaded + 1) end.device (changed_at place (put_record plan item) tables))))).command ≡ c
-    by_table None h = refl
-    by_table (Some table) h =
-        let item = load_record plan table step seed i s in
-        let end = put_performs config.plans plan place item table device tables in
-        by_refusal (refusal_of plan table item) _ (by_outcome end.outcome end _ (h end.device (changed_at place (put_record plan item) tables)))
-
 pub plain-of : (config : Config) (old : Machine) (c : Command) → (plain config old c).command ≡ c
 plain-of config old command.Nothing = refl
 plain-of config old command.Mount = mount-of config old
@@ -450,7 +431,7 @@ plain-of config old (command.Agg name range column width) = on_table-of config (
 plain-of config old (command.Join left right range) = on_table-of config (command.Join left right range) old left _ (λ a. on_table-of config _ old right _ (λ b. refl))
 plain-of config old (command.Stat name) = on_table-of config (command.Stat name) old name _ (λ at. refl)
 plain-of config old command.Cost = refl
-plain-of config old (command.Load name count step seed) = on_table-of config (command.Load name count step seed) old name _ (λ at. loads-of config _ old at.plan at.place step seed count _ _ _ _ _)
+plain-of config old (command.Load name count step seed) = on_table-of config (command.Load name count step seed) old name _ (λ at. loads-so config _ _ (commands (command.Load name count step seed)) old at.plan at.place step seed count _ _ _ _ _)
 plain-of config old (command.Device page block) = refl
 plain-of config old (command.Table line) = refl
 

@@ -3,17 +3,20 @@
 use Rattle.std.proofs.Common.{◌≡◌, ℕ, ◌+◌, ◌-◌, ◌<◌, ◌≤◌, Bool, true, false, cond, not, ◌&&◌, ◌==◌, nat_lt, Option, Some, None, List, [], ◌∷◌, ◌++◌, length, length-append, take, drop, refl, sym, ◌∙◌, ap, subst, arith, ◌⊎◌, inl, inr, length-drop, IsTrue, eq-eqb}
 use Rattle.std.specs.List.{AllByRecursion, last_or, sum}
 use Rattle.std.specs.Option.{option_map, unwrap_or}
-use Rattle.std.proofs.lemmas.Bool.{cases_lt, ltb-true}
+use Rattle.std.proofs.lemmas.Bool.{cases_lt, ltb-true, lt-ltb}
 use Rattle.std.proofs.lemmas.List.{append-nil, take-append-le, drop-append-le, drop-drop, drop_all, append_assoc}
 use Rattle.std.proofs.lemmas.List.Sums.{sum_by-take-le}
 use Rattle.std.proofs.Math.Seq.{drop-append-add}
 use Rattle.std.proofs.lemmas.Option.{none-some}
+use Rattle.std.proofs.Math.Bool.{and-false}
 use Rattle.fl_model.specs.Table.{Entry, is_after}
 use Rattle.fl_model.specs.Log.{last_key}
-use Rattle.fl_model.proofs.Lists.{each-push, drop_none, take_none}
-use Rattle.fl_model.proofs.CopiesAreParts.{lt-true}
+use Rattle.fl_model.proofs.Lists.{each-push, drop_none, take_none, sum_take_more, each-drop, last_or-append}
 use Rattle.fl_machine.specs.Keeping.{sure}
-use Rattle.fl_machine.proofs.Logs.{Core, sum_take_more, front_of, rest_of, owed_of, AreAbove, IsFine, IsReady, IsJoining, past_in, lost, front-all, owed-lost, ready-owed, filter_whole, Tops, tops-above, all_drop, last-append, last-drop, is_last, last-key, splits, rest-length, held-pending, owing-pending, unlogged-joining, joining-some, take_seam}
+use Rattle.fl_machine.proofs.Logs.{Core, front_of, rest_of, owed_of, AreAbove, IsFine, IsReady, IsJoining, past_in, lost, front-all, owed-lost, Tops, splits, rest-length}
+use Rattle.fl_machine.proofs.LogStops.{ready-owed, held-pending, owing-pending, unlogged-joining, joining-some, take_seam}
+use Rattle.fl_machine.proofs.LogSeals.{tops-above, last-drop, is_last, last-key}
+use Rattle.fl_machine.proofs.LogRepairs.{filter_whole}
 
 -- some are left of the oldest, and new ones come above the last
 pub record GoesOn (xs ys : List Entry) : Type 0 where
@@ -59,7 +62,7 @@ cut-more xs ys n h lt =
           ap (drop n) h.is
           ∙ (ap (λ (k : ℕ). drop k (left ++ h.new)) more
           ∙ (drop-append-add left h.new m ∙ ap (λ (es : List Entry). es ++ drop m h.new) (sym (drop_all (length xs) xs (omega arith)))));
-      above = all_drop (λ e. IsTrue (is_after xs e)) m h.new h.above;
+      above = each-drop (λ e. IsTrue (is_after xs e)) m h.new h.above;
     }
 
 lasts-less : (xs : List Entry) (n : ℕ) (ys : List Entry) → n < length ys → drop n ys ≡ [] → xs ≡ []
@@ -67,7 +70,7 @@ lasts-less xs n ys few e = let l : length (drop n ys) ≡ 0 = ap (λ (es : List 
 
 pub last-behind : (xs ys : List Entry) (w : Entry) → last_or None ys ≡ Some w → last_or None (xs ++ ys) ≡ Some w
 last-behind xs [] w e = absurd (none-some w e)
-last-behind xs (y ∷ ys) w e = last-append None xs y ys ∙ e
+last-behind xs (y ∷ ys) w e = last_or-append None xs (y ∷ ys) ∙ e
 
 last_all : (P : Entry → Type 0) (es : List Entry) (w : Entry) → last_or None es ≡ Some w → AllByRecursion P es → P w
 last_all P [] w e h = absurd (none-some w e)
@@ -92,7 +95,7 @@ above-all xs ys new h greatest = by_last (is_last xs)
 
     by_less : (w : Entry) → last_or None xs ≡ Some w → w.kept.key < new.kept.key → IsTrue (is_after xs new)
     by_less w e less =
-        subst (λ (o : Option Entry). IsTrue (unwrap_or (option_map (λ (l : Entry). nat_lt l.kept.key new.kept.key) o) true)) (sym e) (lt-true w.kept.key new.kept.key less)
+        subst (λ (o : Option Entry). IsTrue (unwrap_or (option_map (λ (l : Entry). nat_lt l.kept.key new.kept.key) o) true)) (sym e) (lt-ltb w.kept.key new.kept.key less)
 
     by_new : (w v : Entry) → last_or None xs ≡ Some w → last_or None ys ≡ Some v → (h.goes_on.new ≡ []) ⊎ ((u : Entry) × (last_or None h.goes_on.new ≡ Some u)) → w.kept.key < new.kept.key
     by_new w v e k (inl none) =
@@ -297,12 +300,8 @@ sure-idle c none = all-sure c (idle-logged c none) ∙ ap (λ (z : Bool). cond z
 
 -- where the log has what is pending, all are
 ready-all_logged : (c : Core) → IsFine c → IsReady c → (past_in c 0).unlogged ≡ false
-ready-all_logged c fine h = ap (λ (x : Bool). not (c.pending == 0) && not x) (by_last (is_last (rest_of c))) ∙ and_false (not (c.pending == 0))
+ready-all_logged c fine h = ap (λ (x : Bool). not (c.pending == 0) && not x) (by_last (is_last (rest_of c))) ∙ and-false (not (c.pending == 0))
   where
-    and_false : (b : Bool) → (b && false) ≡ false
-    and_false true = refl
-    and_false false = refl
-
     by_last : (rest_of c ≡ []) ⊎ ((w : Entry) × (last_or None (rest_of c) ≡ Some w)) → unwrap_or (option_map (λ (last : Entry). last.kept.key == last_key c.entries) (last_or None c.logged)) false ≡ true
     by_last (inl e) =
         let n : length (rest_of c) ≡ 0 = ap (λ (es : List Entry). length es) e in let all = rest-length c fine in let some = h.some in absurd (omega (arith, n, all, some))

@@ -33,10 +33,6 @@ pub written-is-device : {P : Type 0} (status : ToolStatus) → (status ≡ Done)
 written-is-device status (inl other) is = absurd (cc (other, is))
 written-is-device status (inr other) is = absurd (cc (other, is))
 
-pub drawn-is-write : {P : Type 0} (status : ToolStatus) → (status ≡ NoMemory) ⊎ (status ≡ Device) → status ≡ OutWrite → P
-drawn-is-write status (inl other) is = absurd (cc (other, is))
-drawn-is-write status (inr other) is = absurd (cc (other, is))
-
 -- ---- heights: of a ring at most 15 * 2 ^ 32, of a table four of these, and of a line of words 28
 
 pub table-top : (a b : ℕ) → a ≤ b + 257698037760 → a ≤ b + 257698037788
@@ -44,9 +40,6 @@ table-top a b le = omega (arith, le)
 
 pub fault-top : (a b c : ℕ) → b ≤ a + 257698037760 → c ≤ b + 28 → c ≤ a + 257698037788
 fault-top a b c le more = omega (arith, le, more)
-
-pub no-more : (a n : ℕ) → a ≤ a + n
-no-more a n = omega arith
 
 pub fault-room : (a b : ℕ) → b ≤ a + 257698037760 → a + 274877906944 < 1099511627776 → b + 28 < 1099511627776
 fault-room a b le room = omega (arith, le, room)

@@ -1,4 +1,3 @@
-pub mod Chains
 mod Ends
 pub mod Pages
 pub mod ThreeTexts

@@ -3,12 +3,12 @@ use Rattle.std.proofs.Common.{◌≡◌, ◌⊎◌, ℕ, suc, ◌+◌, Bool, tru
 use base.Fml.{GName}
 use Rattle.fl_base.specs.Causes.{Appends, AppendsFront}
 use Rattle.fl_base.specs.declared.types.Geometry.{Geometry}
+use Rattle.fl_base.proofs.Appended.{appends-none}
 use Rattle.fl_flash.specs.declared.flash.Work.{Work}
 use Rattle.fl_flash.specs.Flash.{FlashState}
 use Rattle.fl_flash.specs.Media.{MediaState}
 use Rattle.fl_flash.specs.Sim.{on_medium}
 use Rattle.fl_words.specs.Config.{Lines}
-use Rattle.fl_image_check.proofs.ToldTables.{told-none}
 use Rattle.fl_image.specs.Header.{IsAccepted}
 use Rattle.fl_image.specs.Image.{IsImageOf}
 use Rattle.fl_image.specs.declared.status.ToolStatus.{ToolStatus}
@@ -31,8 +31,8 @@ over-medium P bytes tells geometry blocks origin work medium f is same telling t
 -- before the bytes are an image
 pub early-ends : (drawing : Drawing) (bytes : List ℕ) (told : Option (List ℕ)) (status : ToolStatus) → (status ≡ NotImage) ⊎ (status ≡ Device)
     → (status ≡ NotImage → (lines : Lines) → IsAccepted lines → IsImageOf bytes lines → ⊥) → MapEnds drawing bytes told told status
-early-ends drawing bytes told status (inl is) none = subst (λ (s : ToolStatus). MapEnds drawing bytes told told s) (sym is) (none is, told-none told)
-early-ends drawing bytes told status (inr is) none = subst (λ (s : ToolStatus). MapEnds drawing bytes told told s) (sym is) (told-none told)
+early-ends drawing bytes told status (inl is) none = subst (λ (s : ToolStatus). MapEnds drawing bytes told told s) (sym is) (none is, appends-none told)
+early-ends drawing bytes told status (inr is) none = subst (λ (s : ToolStatus). MapEnds drawing bytes told told s) (sym is) (appends-none told)
 
 -- .. and when it is written
 pub written-ends : (drawing : Drawing) (bytes text : List ℕ) (told told_now : Option (List ℕ)) (status : ToolStatus) → (status ≡ Done) ⊎ (status ≡ OutWrite) → IsMapOf drawing bytes text

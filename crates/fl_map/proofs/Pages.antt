@@ -1,19 +1,13 @@
 -- The pages of a ring, one after another.
-use Rattle.std.proofs.Common.{◌≡◌, ℕ, suc, ◌+◌, ◌*◌, ◌≤◌, ◌<◌, Option, List, [], ◌∷◌, ◌++◌, refl, arith}
-use Rattle.std.specs.Prelude.{get_or}
-use Rattle.std.proofs.Math.Nat.{add-mul, mul-le-mul_right}
+use Rattle.std.proofs.Common.{◌≡◌, ℕ, suc, ◌+◌, ◌<◌, Option, List, [], ◌∷◌, ◌++◌, refl, arith}
+use Rattle.std.proofs.Math.Nat.{add-mul}
 use Rattle.fl_flash.specs.Flash.{FlashState, pages}
 use Rattle.fl_mark.specs.Mark.{state_of_page}
-use Rattle.fl_mark.specs.declared.page_state.PageState.{PageState}
-use Rattle.fl_mark.specs.declared.page_state.PageState.TheVariants.{Blank}
 use Rattle.fl_ring.specs.declared.ring.Ring.{Ring}
 use Rattle.fl_frame.specs.Reads.{OnlyReads}
 use Rattle.fl_ring.specs.Place.{shape_of, LiesOn}
 use Rattle.fl_ring.specs.Ring.{room}
 use Rattle.fl_ring.proofs.Exists.{page_exists}
-use Rattle.fl_map.specs.declared.drawing.Drawing.{Drawing}
-use Rattle.fl_map.specs.declared.note.RingNote.{RingNote}
-use Rattle.fl_map.specs.Drawn.{cell_text, cells_to}
 use Rattle.fl_map.specs.Pages.{states_to, figures_to, with_page}
 
 pub states_next : (page : ℕ → List ℕ) (first n : ℕ) → states_to page first (n + 1) ≡ states_to page first n ++ state_of_page (page (first + n)) ∷ []
@@ -22,31 +16,8 @@ states_next page first n = let e : n + 1 ≡ suc n = omega arith in rw e refl
 pub figures_next : (row_len : Option ℕ) (page : ℕ → List ℕ) (first n : ℕ) → figures_to row_len page first (n + 1) ≡ with_page row_len (page (first + n)) (figures_to row_len page first n)
 figures_next row_len page first n = let e : n + 1 ≡ suc n = omega arith in rw e refl
 
-pub cells_next : (drawing : Drawing) (note : RingNote) (top : ℕ) (states : List PageState) (n : ℕ) →
-    cells_to drawing note top states (n + 1) ≡ cells_to drawing note top states n ++ cell_text drawing note top n (get_or states n Blank)
-cells_next drawing note top states n = let e : n + 1 ≡ suc n = omega arith in rw e refl
-
 -- a page of the ring is a page of the flash
 pub is_there : (ring : Ring) (f g : FlashState) (n i : ℕ) → LiesOn ring f → OnlyReads f n g → i < room (shape_of ring) → (shape_of ring).first + i < pages g
 is_there ring f g n i lies reads lt =
     let end = add-mul ring.first_block ring.blocks ring.per_block in
     page_exists ring f g n ((shape_of ring).first + i) lies reads (omega (arith, lt, end))
-
--- a block lies within its ring
-pub block_within : (blocks per_block block : ℕ) → block < blocks → block * per_block + per_block ≤ blocks * per_block
-block_within blocks per_block block lt =
-    let up : (block + 1) * per_block ≤ blocks * per_block = mul-le-mul_right per_block (omega (arith, lt)) in
-    omega (arith, up, add-mul block 1 per_block)
-
-pub reads_within : (a b : FlashState) (n m : ℕ) → n ≤ m → OnlyReads a n b → OnlyReads a m b
-reads_within a b n m le x = record {
-  goes = x.goes;
-  same = x.same;
-  armed = x.armed;
-  power = x.power;
-  cuts = x.cuts;
-  reads = omega (arith, le, x.reads);
-  media_reads = omega (arith, le, x.media_reads);
-  programs = x.programs;
-  erases = x.erases;
-}

@@ -7,7 +7,7 @@ use Rattle.fl_check.specs.declared.finding.RingName.{RingName}
 use Rattle.fl_check.specs.declared.finding.RingName.TheVariants.{Index, Data, Var, Log}
 use Rattle.fl_frame.specs.Reads.{OnlyLooks}
 use Rattle.fl_check.specs.Whole.{LogFits}
-use Rattle.fl_rules.proofs.LooksChangeNothing.{same_pages, fails_later}
+use Rattle.fl_frame.proofs.ReadsInTurn.{looks_pages}
 use Rattle.fl_flash.specs.Flash.{FlashState, page_at}
 use Rattle.fl_mark.specs.declared.page_state.PageState.{PageState}
 use Rattle.fl_model.specs.Record.{row_len}
@@ -18,18 +18,11 @@ use Rattle.fl_plan.specs.declared.table_config.TableConfig.{TableConfig}
 use Rattle.fl_ring.specs.Mounting.{shape_at}
 use Rattle.fl_ring.specs.Ring.{room}
 use Rattle.fl_map.specs.declared.drawing.Drawing.{Drawing}
-use Rattle.fl_map.specs.declared.fault.MapFault.{MapFault}
-use Rattle.fl_map.specs.declared.fault.MapFault.TheVariants.{Flash, NoMemory}
 use Rattle.fl_map.specs.declared.note.RingNote.{RingNote}
 use Rattle.fl_map.specs.Drawn.{Drawn, with_ring}
 use Rattle.fl_map.specs.Finding.{title_text, fault_page}
 use Rattle.fl_map.specs.Pages.{states_to, note_of}
-use Rattle.fl_map.specs.Reading.{FailsBy}
 use Rattle.fl_map.specs.Table.{with_place, with_place_if, with_rings, with_fault, with_table}
-
-pub fails-later : (a b c : FlashState) (fault : MapFault) → OnlyLooks a b → FailsBy b fault c → FailsBy a fault c
-fails-later a b c (Flash fault) looks fails = fails_later a b c fault looks fails
-fails-later a b c NoMemory looks fails = tt
 
 -- a ring that a table may not have is one of those that are served, and lies on the flash
 pub lies-there : (ring : Option RingPlace) (blocks : ℕ) → IfSome ring IsRingSize → IfSome ring (λ at. at.first_block + at.blocks ≤ blocks) →
@@ -63,7 +56,7 @@ rings-drawn drawing second third fourth name config log finding f0 f1 f2 f3 n d0
     let next : (x : Drawing) (f : FlashState) (ring : RingName) (place : Option RingPlace) (before before_is now : Drawn) → x ≡ drawing → OnlyLooks f0 f → before ≡ before_is →
     now ≡ with_place_if x name config (page_at f) finding ring place before → now ≡ with_place_if drawing name config (page_at f0) finding ring place before_is =
     λ x f ring place before before_is now same looks is e. e ∙ ap (λ (y : Drawing). with_place_if y name config (page_at f) finding ring place before) same
-    ∙ ap (λ (p : ℕ → List ℕ). with_place_if drawing name config p finding ring place before) (same_pages f0 f looks)
+    ∙ ap (λ (p : ℕ → List ℕ). with_place_if drawing name config p finding ring place before) (looks_pages f0 f looks)
     ∙ ap (λ (d : Drawn). with_place_if drawing name config (page_at f0) finding ring place d) is in
     let index = next second f1 Index config.index d1 _ d2 es l1 rows e2 in
     let var = next third f2 Var config.var d2 _ d3 (et ∙ es) l2 index e3 in
@@ -74,7 +67,7 @@ pub table-drawn : (drawing first second : Drawing) (called name : List ℕ) (con
     d2 ≡ with_table drawing name config log (page_at f0) finding d0
 table-drawn drawing first second called name config log finding f0 f1 d0 d1 d2 ef es en l1 e1 e2 =
     let rings = e1 ∙ ap (λ (x : Drawing). with_rings x called config log (page_at f1) finding d0) ef
-    ∙ ap (λ (p : ℕ → List ℕ). with_rings drawing called config log p finding d0) (same_pages f0 f1 l1) in
+    ∙ ap (λ (p : ℕ → List ℕ). with_rings drawing called config log p finding d0) (looks_pages f0 f1 l1) in
     e2 ∙ ap (λ (x : Drawing). with_fault x called finding d1) (es ∙ ef)
     ∙ ap (λ (d : Drawn). with_fault drawing called finding d) rings
     ∙ ap (λ (m : List ℕ). with_table drawing m config log (page_at f0) finding d0) en

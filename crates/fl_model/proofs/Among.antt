@@ -1,5 +1,5 @@
 -- The operations of one table, seen from all tables.
-use Rattle.std.proofs.Common.{◌≡◌, ℕ, zero, suc, Bool, true, false, cond, Option, Some, None, List, [], ◌∷◌, ◌++◌, map, refl, sym, ◌∙◌, ap, subst, inl, inr}
+use Rattle.std.proofs.Common.{◌≡◌, ◌≢◌, ℕ, zero, suc, Bool, true, false, cond, Option, Some, None, List, [], ◌∷◌, ◌++◌, map, refl, sym, ◌∙◌, ap, subst, append_assoc, inl, inr}
 use Rattle.std.specs.List.{slice_get}
 use Rattle.std.specs.Option.{option_map, unwrap_or}
 use Rattle.std.proofs.lemmas.Option.{none-some}
@@ -22,6 +22,13 @@ seals-at plan place (ring ∷ rings) table = by_dirty (is_dirty ring (seal_buffe
         ≡ map (at_place place) (((ring, Body) ∷ (ring, Mark) ∷ (cond b ((ring, Erase) ∷ []) [])) ++ seals_within plan rings (after_seal plan ring table))
     by_dirty true e = rw e refl
     by_dirty false e = rw e refl
+
+-- the operations of joined seals
+pub within-append : (plan : Plan) (xs ys : List RingName) (table : Table) → seals_within plan (xs ++ ys) table ≡ seals_within plan xs table ++ seals_within plan ys (after_seals plan xs table)
+within-append plan [] ys table = refl
+within-append plan (x ∷ xs) ys table =
+    ap (λ l. seal_within plan x table ++ l) (within-append plan xs ys (after_seal plan x table))
+    ∙ sym (append_assoc (seal_within plan x table) (seals_within plan xs (after_seal plan x table)) (seals_within plan ys (after_seals plan xs (after_seal plan x table))))
 
 pub repair-at : (plan : Plan) (place : ℕ) (ring : RingName) (table : Table) → repair_operations plan place ring table ≡ map (at_place place) (repair_within plan ring table)
 repair-at plan place ring table = by_tests (is_torn ring table) (is_dirty ring (cond (is_torn ring table) (seal_page plan ring 0 table) table))
@@ -64,17 +71,23 @@ changed-to_same n x [] e = refl
 changed-to_same {X} zero x (y ∷ ys) e = let same : y ≡ x = cc in rw same refl
 changed-to_same (suc n) x (y ∷ ys) e = ap (λ zs. y ∷ zs) (changed-to_same n x ys e)
 
-pub changed-there : {X : Type 0} (n : ℕ) (x y : X) (xs : List X) → slice_get xs n ≡ Some x → slice_get (changed_at n (λ _. y) xs) n ≡ Some y
-changed-there n x y [] e = absurd (none-some x e)
-changed-there zero x y (z ∷ zs) e = refl
-changed-there (suc n) x y (z ∷ zs) e = changed-there n x y zs e
+pub changed_at-there : {X : Type 0} (n : ℕ) (f : X → X) (xs : List X) (x : X) → slice_get xs n ≡ Some x → slice_get (changed_at n f xs) n ≡ Some (f x)
+changed_at-there n f [] x e = absurd (none-some x e)
+changed_at-there {X} zero f (y ∷ ys) x e = let same : y ≡ x = cc in ap (λ z. Some (f z)) same
+changed_at-there (suc n) f (y ∷ ys) x e = changed_at-there n f ys x e
 
-pub changed-elsewhere : {X : Type 0} (n m : ℕ) (y : X) (xs : List X) → (n ≡ m → ⊥) → slice_get (changed_at n (λ _. y) xs) m ≡ slice_get xs m
-changed-elsewhere n m y [] e = refl
-changed-elsewhere zero zero y (z ∷ zs) e = absurd (e refl)
-changed-elsewhere zero (suc m) y (z ∷ zs) e = refl
-changed-elsewhere (suc n) zero y (z ∷ zs) e = refl
-changed-elsewhere (suc n) (suc m) y (z ∷ zs) e = changed-elsewhere n m y zs (λ k. e (ap suc k))
+pub changed-there : {X : Type 0} (n : ℕ) (x y : X) (xs : List X) → slice_get xs n ≡ Some x → slice_get (changed_at n (λ _. y) xs) n ≡ Some y
+changed-there n x y xs e = changed_at-there n (λ _. y) xs x e
+
+pub changed_at-elsewhere : {X : Type 0} (n m : ℕ) (f : X → X) (xs : List X) → n ≢ m → slice_get (changed_at n f xs) m ≡ slice_get xs m
+changed_at-elsewhere n m f [] h = refl
+changed_at-elsewhere zero zero f (x ∷ xs) h = absurd (h refl)
+changed_at-elsewhere zero (suc m) f (x ∷ xs) h = refl
+changed_at-elsewhere (suc n) zero f (x ∷ xs) h = refl
+changed_at-elsewhere (suc n) (suc m) f (x ∷ xs) h = changed_at-elsewhere n m f xs (λ e. h (ap suc e))
+
+pub changed-elsewhere : {X : Type 0} (n m : ℕ) (y : X) (xs : List X) → n ≢ m → slice_get (changed_at n (λ _. y) xs) m ≡ slice_get xs m
+changed-elsewhere n m y xs e = changed_at-elsewhere n m (λ _. y) xs e
 
 -- an operation that is done to the table at its place
 pub done-at : (plans : List Plan) (place : ℕ) (operation : RingName × Kind) (tables : List Table) (plan : Plan) (table : Table) → slice_get plans place ≡ Some plan → slice_get tables place ≡ Some table →

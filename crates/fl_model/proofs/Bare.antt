@@ -63,7 +63,7 @@ seal-beside plan log DataRing t h = refl
 seal-beside plan log IndexRing t h = refl
 seal-beside plan log VarRing t h = refl
 
-seals-beside : (plan : Plan) (log : Log) (rings : List RingName) (t : Table) → AreBare rings → after_seals plan rings (beside log t) ≡ beside log (after_seals (bare plan) rings t)
+pub seals-beside : (plan : Plan) (log : Log) (rings : List RingName) (t : Table) → AreBare rings → after_seals plan rings (beside log t) ≡ beside log (after_seals (bare plan) rings t)
 seals-beside plan log [] t h = refl
 seals-beside plan log (ring ∷ rings) t h = ap (after_seals plan rings) (seal-beside plan log ring t h.0) ∙ seals-beside plan log rings (after_seal (bare plan) ring t) h.1
 
@@ -248,7 +248,7 @@ all_repaired-beside : (plan : Plan) (log : Log) (rings : List RingName) (t : Tab
 all_repaired-beside plan log [] t h = refl
 all_repaired-beside plan log (ring ∷ rings) t h = ap (all_repaired plan rings) (repaired-beside plan log ring t h.0) ∙ all_repaired-beside plan log rings (repaired (bare plan) ring t) h.1
 
-rings-bare : (plan : Plan) → AreBare (rings_of plan)
+pub rings-bare : (plan : Plan) → AreBare (rings_of plan)
 rings-bare plan = by_tests (has_index plan) (has_var plan)
   where
     by_tests : (a b : Bool) → AreBare ((cond a (IndexRing ∷ []) []) ++ DataRing ∷ [] ++ (cond b (VarRing ∷ []) []))

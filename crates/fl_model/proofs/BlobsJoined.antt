@@ -1,23 +1,21 @@
 -- Blobs stand where a record joins with its blob, and where a table is lost.
-use Rattle.std.proofs.Common.{◌≡◌, ℕ, zero, suc, ◌+◌, ◌-◌, ◌*◌, ◌/◌, ◌%◌, ◌<◌, ◌≤◌, ◌⊎◌, inl, inr, Bool, true, false, cond, ◌&&◌, ◌||◌, ◌==◌, nat_le, min, Option, Some, None, IfSome, option_map, unwrap_or, List, [], ◌∷◌, ◌++◌, length, take, drop, replicate, refl, sym, ◌∙◌, ap, subst, arith, length-append, length-drop, length-take, if◌then◌else◌}
+use Rattle.std.proofs.Common.{◌≡◌, ℕ, ◌+◌, ◌-◌, ◌*◌, ◌/◌, ◌%◌, ◌<◌, ◌≤◌, ◌⊎◌, inl, inr, Bool, true, false, cond, ◌||◌, ◌==◌, min, Option, Some, None, IfSome, option_map, unwrap_or, List, [], ◌++◌, length, take, drop, replicate, refl, sym, ◌∙◌, ap, subst, arith, length-append, length-drop, length-take, if◌then◌else◌}
 use Rattle.std.specs.List.{slice_get, sum}
-use Rattle.std.proofs.lemmas.Bool.{cases_lt, lt-ltb, le-ltb, lt-leb, eq-eqb, ne_eqb, eqb-true, true≢false}
+use Rattle.std.proofs.lemmas.Bool.{cases_lt, lt-ltb, le-ltb, eq-eqb, ne_eqb, eqb-true, true≢false, false≢true}
 use Rattle.std.proofs.lemmas.List.{drop-append-le}
 use Rattle.std.proofs.lemmas.Nat.{le-div}
 use Rattle.std.proofs.Math.Nat.{add-mul, mul-le-mul_right, mod-lt, mod-add-div', div-mul-le_self}
 use Rattle.std.proofs.lemmas.Option.{same_Some}
+use Rattle.std.proofs.Math.Seq.{drop-length}
 use Rattle.fl_model.specs.Record.{Record, Plan, content_per_page}
 use Rattle.fl_model.specs.Content.{ContentPage, content_page}
 use Rattle.fl_model.specs.Ring.{Ring, oldest, given_up}
-use Rattle.fl_model.specs.Table.{Table, Entry, DataRing, shape_of, seal_page, full_pages, blob_len, fill, with_record, start_page, start_offset, written, lose}
+use Rattle.fl_model.specs.Table.{Table, Entry, DataRing, shape_of, seal_page, full_pages, blob_len, fill, with_record, start_page, start_offset, lose}
 use Rattle.fl_model.specs.Query.{page_stands}
 use Rattle.fl_model.specs.Agrees.{content_at, reach_of, HoldsBlob, BlobsOf}
 use Rattle.fl_model.specs.Facts.{IsTable}
 use Rattle.fl_model.proofs.Lists.{slice_get-drop, slice_get-take, slice_get-left, slice_get-push, slice_get-short, slice_get-front}
-
-drop_all : {X : Type 0} (xs : List X) → drop (length xs) xs ≡ []
-drop_all [] = refl
-drop_all (x ∷ xs) = drop_all xs
+use Rattle.fl_model.proofs.StandingPages.{stands-not}
 
 -- the content of a page by whether its number is before the next one
 abbrev content_by : Plan → Table → Ring → ℕ → Bool → Option ContentPage
@@ -239,7 +237,7 @@ module _ (plan : Plan) (item : Record) (table : Table) (ring : Ring) (some_room 
           wait-byte plan ((b.q + r) * R) i after.buffered (mod-lt (new_entry.offset + j) some_room) (omega (arith, place, all, short))
           ∙ (ap (slice_get after.buffered) place
           ∙ (sym (slice_get-drop (length table.buffered) after.buffered j)
-          ∙ (ap (λ (bs : List ℕ). slice_get bs j) (drop-append-le (length table.buffered) table.buffered more (omega arith) ∙ (ap (λ (bs : List ℕ). bs ++ more) (drop_all table.buffered) ∙ more_is)) ∙ e)))
+          ∙ (ap (λ (bs : List ℕ). slice_get bs j) (drop-append-le (length table.buffered) table.buffered more (omega arith) ∙ (ap (λ (bs : List ℕ). bs ++ more) (drop-length table.buffered) ∙ more_is)) ∙ e)))
 
   pub blobs-joined : BlobsOf plan table ring → BlobsOf plan after ring
   blobs-joined blobs i e blob at has some stands = by_place (slice_get-push table.entries new_entry i e at)
@@ -282,12 +280,7 @@ blobs-lost plan table ring is has blobs i entry blob at is_blob some stands =
     ]
       where
         not_gone : entry.page < oldest ring → ⊥
-        not_gone lt = nothing (nat_le ring.next entry.page) (nat_le (oldest ring) entry.page) (lt-leb ring.next entry.page (omega (arith, lt))) (lt-leb (oldest ring) entry.page lt) stands
-          where
-            nothing : (a b : Bool) → a ≡ false → b ≡ false → cond a true (b && unwrap_or (option_map (λ count. count == 1) (slice_get ring.counts (entry.page - oldest ring))) false) ≡ true → ⊥
-            nothing true b e f h = cc
-            nothing false true e f h = cc
-            nothing false false e f h = cc
+        not_gone lt = false≢true (sym (stands-not ring entry.page lt) ∙ stands)
 
     kept : (number : ℕ) (page : ContentPage) → number < ring.next → content_at plan table ring number ≡ Some page → content_at plan (lose table) ring number ≡ Some page
     kept number page lt e =

@@ -1,18 +1,18 @@
 -- Blobs stand where a page of variable data is sealed: each page from the oldest kept one on has the content that it had, and the
 -- bytes that wait are those of the pages to come.
-use Rattle.std.proofs.Common.{◌≡◌, ℕ, zero, suc, ◌+◌, ◌-◌, ◌*◌, ◌%◌, ◌<◌, ◌≤◌, ◌⊎◌, inl, inr, Bool, true, false, cond, ◌&&◌, ◌==◌, nat_lt, nat_le, Option, Some, None, option_map, unwrap_or, List, [], ◌∷◌, ◌++◌, length, take, drop, refl, sym, ◌∙◌, ap, subst, arith, length-append, length-drop}
+use Rattle.std.proofs.Common.{◌≡◌, ℕ, ◌+◌, ◌-◌, ◌*◌, ◌%◌, ◌<◌, ◌≤◌, ◌⊎◌, inl, inr, Bool, true, false, cond, ◌&&◌, ◌==◌, nat_le, Option, Some, None, option_map, unwrap_or, List, [], ◌∷◌, ◌++◌, length, take, drop, refl, sym, ◌∙◌, ap, subst, arith, length-append, length-drop}
 use Rattle.std.specs.List.{slice_get}
 use Rattle.std.proofs.lemmas.Bool.{cases_lt, lt-ltb, le-ltb, le-leb, lt-leb, ltb-true, eqb-true}
-use Rattle.std.proofs.lemmas.List.{drop-drop, take_all, take-append-le}
+use Rattle.std.proofs.lemmas.List.{drop-drop, take_all}
 use Rattle.std.proofs.Math.Nat.{add-mul, mul-le-mul_right}
 use Rattle.fl_model.specs.Record.{Plan, content_per_page}
 use Rattle.fl_model.specs.Content.{ContentPage, content_page}
-use Rattle.fl_model.specs.Ring.{Shape, IsShape, Ring, oldest, extended, is_full, sealed}
-use Rattle.fl_model.specs.Table.{Table, Entry, VarRing, shape_of, full_pages, seal_buffer}
+use Rattle.fl_model.specs.Ring.{IsShape, Ring, oldest, extended, is_full, sealed}
+use Rattle.fl_model.specs.Table.{Table, VarRing, shape_of, full_pages, seal_buffer}
 use Rattle.fl_model.specs.Query.{page_stands}
-use Rattle.fl_model.specs.Agrees.{content_at, reach_of, HoldsBlob, BlobsOf}
-use Rattle.fl_model.proofs.FullPages.{full-dropped, full-pushed, full-within, full-last}
-use Rattle.fl_model.proofs.Lists.{slice_get-drop, slice_get-left, slice_get-last, slice_get-some, drop_none, take_none, and_right}
+use Rattle.fl_model.specs.Agrees.{content_at, BlobsOf}
+use Rattle.fl_model.proofs.FullPages.{full-dropped, full-pushed, full-within}
+use Rattle.fl_model.proofs.Lists.{slice_get-drop, slice_get-left, slice_get-last, drop_none, take_none, and_right}
 
 -- the ring with one page more, and so many of the oldest given up
 abbrev shifted : ℕ → Bool → Ring → Ring

@@ -3,10 +3,10 @@ use Rattle.std.proofs.Common.{◌≡◌, ℕ, zero, suc, ◌+◌, ◌<◌, Bool,
 use Rattle.std.specs.List.{AllByRecursion, last_or}
 use Rattle.std.specs.Option.{option_map, unwrap_or}
 use Rattle.std.proofs.lemmas.List.{take-append-drop, append-nil, append_assoc}
-use Rattle.std.proofs.lemmas.Bool.{ltb-true, ltb-false}
+use Rattle.std.proofs.lemmas.Bool.{ltb-true, lt-ltb}
 use Rattle.fl_model.specs.Record.{Record}
 use Rattle.fl_model.specs.Ship.{Ascends, IsPart, IsEnd, to_ship, HasLastOf, MayShip, KeepsOf, Shipment, nothing_yet, ShipmentStep, Shipments, IsWhole, CopiesAreParts, ShipsParts, ShipsAll}
-use Rattle.fl_model.proofs.Lists.{last_or-push, all-back}
+use Rattle.fl_model.proofs.Lists.{last_or-push, each-back, each-front, last_or-append}
 
 -- ---- parts
 
@@ -55,23 +55,12 @@ ascends-back : (xs ys : List Record) → Ascends (xs ++ ys) → Ascends ys
 ascends-back [] ys h = h
 ascends-back (x ∷ xs) ys h = ascends-back xs ys h.1
 
-ascends-front : (xs ys : List Record) → Ascends (xs ++ ys) → Ascends xs
+pub ascends-front : (xs ys : List Record) → Ascends (xs ++ ys) → Ascends xs
 ascends-front [] ys h = tt
-ascends-front (x ∷ xs) ys h = (all-front xs ys h.0, ascends-front xs ys h.1)
-  where
-    all-front : (xs ys : List Record) → AllByRecursion (λ other. x.key < other.key) (xs ++ ys) → AllByRecursion (λ other. x.key < other.key) xs
-    all-front [] ys h = tt
-    all-front (z ∷ zs) ys h = (h.0, all-front zs ys h.1)
+ascends-front (x ∷ xs) ys h = (each-front (λ other. x.key < other.key) xs ys h.0, ascends-front xs ys h.1)
 
 part-ascends : (part whole : List Record) → IsPart part whole → Ascends whole → Ascends part
 part-ascends part whole h a = ascends-front part h.after (ascends-back h.before (part ++ h.after) (subst Ascends h.is a))
-
-pub lt-true : (a b : ℕ) → a < b → nat_lt a b ≡ true
-lt-true a b h = by_test (nat_lt a b) refl
-  where
-    by_test : (t : Bool) → nat_lt a b ≡ t → t ≡ true
-    by_test true e = refl
-    by_test false e = let more = ltb-false a b e in absurd (omega (arith, more, h))
 
 lt-false : (a b : ℕ) → b < a + 1 → nat_lt a b ≡ false
 lt-false a b h = by_test (nat_lt a b) refl
@@ -82,13 +71,13 @@ lt-false a b h = by_test (nat_lt a b) refl
 
 filter-all : (key : ℕ) (xs : List Record) → AllByRecursion (λ other. key < other.key) xs → filter (λ (item : Record). nat_lt key item.key) xs ≡ xs
 filter-all key [] h = refl
-filter-all key (x ∷ xs) h = rw (lt-true key x.key h.0, filter-all key xs h.1) refl
+filter-all key (x ∷ xs) h = rw (lt-ltb key x.key h.0, filter-all key xs h.1) refl
 
 -- in an ascending list just those behind it have greater keys
 behind : (xs : List Record) (l : Record) (ys : List Record) → Ascends (xs ++ l ∷ ys) → filter (λ (item : Record). nat_lt l.key item.key) (xs ++ l ∷ ys) ≡ ys
 behind [] l ys h = rw (lt-false l.key l.key (omega arith), filter-all l.key ys h.0) refl
 behind (x ∷ xs) l ys h =
-    let less : x.key < l.key = (all-back (λ other. x.key < other.key) xs (l ∷ ys) h.0).0 in
+    let less : x.key < l.key = (each-back (λ other. x.key < other.key) xs (l ∷ ys) h.0).0 in
     rw (lt-false l.key x.key (omega (arith, less)), behind xs l ys h.1) refl
 
 -- .. and from it on, greater ones and its own
@@ -99,8 +88,8 @@ from-here key [] l ys e h = rw (lt-false l.key key (omega (arith, e)), all-from 
     all-from [] h = refl
     all-from (z ∷ zs) h = let more = h.0 in rw (lt-false z.key key (omega (arith, e, more)), all-from zs h.1) refl
 from-here key (x ∷ xs) l ys e h =
-    let less : x.key < l.key = (all-back (λ other. x.key < other.key) xs (l ∷ ys) h.0).0 in
-    rw (lt-true x.key key (omega (arith, e, less)), from-here key xs l ys e h.1) refl
+    let less : x.key < l.key = (each-back (λ other. x.key < other.key) xs (l ∷ ys) h.0).0 in
+    rw (lt-ltb x.key key (omega (arith, e, less)), from-here key xs l ys e h.1) refl
 
 after-last : (front : List Record) (last : Record) (source : List Record) → to_ship source (front ++ last ∷ []) ≡ filter (λ (item : Record). nat_lt last.key item.key) source
 after-last front last source =
@@ -198,16 +187,12 @@ all-kept before (after ∷ others) h steps a = let k = step-kept before after h 
 pub parts : CopiesAreParts
 parts shipments steps a = all-kept nothing_yet shipments (record { source = record { before = []; is = refl }; copy = record { before = []; after = []; is = refl } }) steps a
 
-last-append : (o : Option Record) (xs : List Record) (y : Record) (ys : List Record) → last_or o (xs ++ y ∷ ys) ≡ last_or (Some y) ys
-last-append o [] y ys = refl
-last-append o (x ∷ xs) y ys = last-append (Some x) xs y ys
-
 pub ships-all : ShipsAll
 ships-all source copy ever s c a (inl none) = ap (λ xs. last_or None (xs ++ to_ship source xs)) none ∙ ap (last_or None) (filter-true source)
 ships-all source copy ever s c a (inr g) =
     ap (λ xs. last_or None (copy ++ xs)) (ships-back source copy (part-ascends source ever s a) g)
     ∙ (ap (λ xs. last_or None (xs ++ g.back)) g.copy_is
     ∙ (ap (last_or None) (append_assoc g.front (g.last ∷ []) g.back)
-    ∙ (last-append None g.front g.last g.back
+    ∙ (last_or-append None g.front (g.last ∷ g.back)
     ∙ (ap (λ (x : Record). last_or (Some x) g.back) (sym (meets source copy ever s c a g).0)
-    ∙ (sym (last-append None g.others g.found g.back) ∙ ap (last_or None) (sym g.source_is))))))
+    ∙ (sym (last_or-append None g.others (g.found ∷ g.back)) ∙ ap (last_or None) (sym g.source_is))))))

@@ -2,8 +2,8 @@
 use Rattle.std.proofs.Common.{◌≡◌, ℕ, zero, suc, ◌+◌, ◌-◌, ◌<◌, ◌≤◌, Bool, true, false, cond, ◌==◌, Option, Some, None, IfSome, IsTrue, List, [], ◌∷◌, ◌++◌, length, take, drop, map, filter, option_map, unwrap_or, refl, sym, ◌∙◌, ap, subst, arith, ◌⊎◌, inl, inr, length-append, length-drop}
 use Rattle.std.specs.List.{slice_get, sum}
 use Rattle.std.proofs.lemmas.Bool.{cases_lt, eq-eqb, ne_eqb, eqb-true}
-use Rattle.std.proofs.lemmas.List.{take-append-drop, drop-drop, take-append-le, take_all}
-use Rattle.std.proofs.lemmas.List.Sums.{sum_by-append, sum_by-cons}
+use Rattle.std.proofs.lemmas.List.{drop-drop, take-append-le, take_all, length-map}
+use Rattle.std.proofs.lemmas.List.Sums.{sum_by-cons}
 use Rattle.std.proofs.lemmas.Option.{none-some, same_Some}
 use Rattle.fl_model.specs.Record.{Plan, has_index, entries_per_page}
 use Rattle.fl_model.specs.Index.{IndexEntry, IndexPage, index_entry, bitmap_of, full_of}
@@ -15,7 +15,7 @@ use Rattle.fl_model.specs.Mount.{ready, waiting_after}
 use Rattle.fl_model.specs.Agrees.{rows_at, Tells, TellsAt, is_told, TellPages}
 use Rattle.fl_model.specs.Facts.{IsTable}
 use Rattle.fl_model.specs.Telling.{TellingStays}
-use Rattle.fl_model.proofs.Lists.{slice_get-drop, slice_get-left, slice_get-push, slice_get-last, slice_get-short, drop_none, take_none}
+use Rattle.fl_model.proofs.Lists.{slice_get-drop, slice_get-left, slice_get-push, slice_get-last, slice_get-short, drop_none, take_none, sum_take_more, sum-within, take-drop-take}
 
 -- the entry at a place tells of each kept page with its number, where what is told doesn't change with the table
 abbrev TellsOf : Plan → Table → ℕ → Option IndexEntry → Type 0
@@ -41,28 +41,7 @@ module _ (count gone : ℕ) (dirty : Bool) (table : Table) (numbered : length ta
   rows-shifted n c =
       ap (take c)
       (drop-drop (sum (take n (drop gone all))) (sum (take gone all)) table.entries
-      ∙ ap (λ k. drop k table.entries) (let s = split gone n all in omega (arith, s)))
-    where
-      split : (g n : ℕ) (xs : List ℕ) → sum (take (g + n) xs) ≡ sum (take g xs) + sum (take n (drop g xs))
-      split zero n xs =
-          let z : 0 + n ≡ n = omega arith in
-          let e = ap sum (take_none xs) in
-          let d = ap (λ (ys : List ℕ). sum (take n ys)) (drop_none xs) in
-          ap (λ k. sum (take k xs)) z ∙ omega (arith, e, d)
-      split (suc g) n [] =
-          let a : sum (take (suc g + n) []) ≡ 0 = nothing (suc g + n) in
-          let b : sum (take n []) ≡ 0 = nothing n in
-          omega (arith, a, b)
-        where
-          nothing : (n : ℕ) → sum (take n []) ≡ 0
-          nothing zero = refl
-          nothing (suc n) = refl
-      split (suc g) n (x ∷ xs) =
-          let more : suc g + n ≡ suc (g + n) = omega arith in
-          let rest = split g n xs in
-          let a = sum_by-cons (λ (k : ℕ). k) x (take (g + n) xs) in
-          let b = sum_by-cons (λ (k : ℕ). k) x (take g xs) in
-          ap (λ k. sum (take k (x ∷ xs))) more ∙ omega (arith, rest, a, b)
+      ∙ ap (λ k. drop k table.entries) (let s = sum_take_more gone n all in omega (arith, s)))
 
   tell-shifted : (plan : Plan) (first : ℕ) (entries : List IndexEntry) → first + length entries ≤ table.rows.next → TellPages plan table first entries → TellPages plan (shifted count gone dirty table) first entries
   tell-shifted plan first entries before tell j n lt at = by_count (slice_get (drop gone all) n) refl
@@ -198,11 +177,11 @@ tell-voided plan table is k page e =
 -- ---- the entries that wait when a table was mounted
 
 -- the rows of a page by its number
-abbrev rows_by : ℕ → List (ℕ × List Entry) → List Entry
+abbrev pub rows_by : ℕ → List (ℕ × List Entry) → List Entry
 rows_by number pages = unwrap_or (option_map (λ (page : ℕ × List Entry). page.1) (slice_get (filter (λ (page : ℕ × List Entry). page.0 == number) pages) 0)) []
 
 -- no page from a number on has a lower one
-pub none-lower : (number first : ℕ) (counts : List ℕ) (entries : List Entry) → number < first → filter (λ (page : ℕ × List Entry). page.0 == number) (pages_from first counts entries) ≡ []
+none-lower : (number first : ℕ) (counts : List ℕ) (entries : List Entry) → number < first → filter (λ (page : ℕ × List Entry). page.0 == number) (pages_from first counts entries) ≡ []
 none-lower number first [] entries lt = refl
 none-lower number first (c ∷ cs) entries lt =
     by_count (c == 0) (none-lower number (first + 1) cs entries (omega (arith, lt))) (none-lower number (first + 1) cs (drop c entries) (omega (arith, lt)))
@@ -214,7 +193,7 @@ none-lower number first (c ∷ cs) entries lt =
     by_count false h k = ap (λ t. cond t ((first, take c entries) ∷ filter (λ (page : ℕ × List Entry). page.0 == number) (pages_from (first + 1) cs (drop c entries))) (filter (λ (page : ℕ × List Entry). page.0 == number) (pages_from (first + 1) cs (drop c entries))))
         (ne_eqb first number (λ e. omega (arith, e, lt))) ∙ k
 
-rows-by : (first n c : ℕ) (counts : List ℕ) (entries : List Entry) → slice_get counts n ≡ Some c → rows_by (first + n) (pages_from first counts entries) ≡ take c (drop (sum (take n counts)) entries)
+pub rows-by : (first n c : ℕ) (counts : List ℕ) (entries : List Entry) → slice_get counts n ≡ Some c → rows_by (first + n) (pages_from first counts entries) ≡ take c (drop (sum (take n counts)) entries)
 rows-by first n c [] entries e = absurd (none-some c e)
 rows-by first zero c (x ∷ cs) entries e = by_count (x == 0) refl
   where
@@ -267,10 +246,6 @@ number-at f first zero j lt = absurd (omega (arith, lt))
 number-at f first (suc n) zero lt = ap (λ k. Some (f k)) (let e : first ≡ first + 0 = omega arith in e)
 number-at f first (suc n) (suc j) lt = number-at f (first + 1) n j (omega (arith, lt)) ∙ ap (λ k. Some (f k)) (let e : first + 1 + j ≡ first + suc j = omega arith in e)
 
-map-length : (f : ℕ → IndexEntry) (xs : List ℕ) → length (map f xs) ≡ length xs
-map-length f [] = refl
-map-length f (x ∷ xs) = ap suc (map-length f xs)
-
 tell-ready : (plan : Plan) (table : Table) → length table.rows.counts ≤ table.rows.next → TellPages plan (ready plan table) (table.rows.next - length (ready plan table).waiting) (ready plan table).waiting
 tell-ready plan table numbered j n lt at = by_count (slice_get table.rows.counts n) refl
   where
@@ -281,7 +256,7 @@ tell-ready plan table numbered j n lt at = by_count (slice_get table.rows.counts
     f number = index_entry plan (rows_of_page table number)
 
     many : length (ready plan table).waiting ≡ count
-    many = map-length f (numbers_from (table.rows.next - count) count) ∙ numbers-length (table.rows.next - count) count
+    many = length-map (numbers_from (table.rows.next - count) count) f ∙ numbers-length (table.rows.next - count) count
 
     number : table.rows.next - count + j ≡ oldest table.rows + n
     number = omega (arith, at, many)
@@ -306,30 +281,8 @@ tell-lost plan table first entries counted h j n lt e = by_count (slice_get tabl
     by_count None k h = tt
     by_count (Some count) k h = λ told. subst (λ (rows : List Entry). TellsAt plan rows (slice_get entries j)) (sym (same n count k)) (h told)
       where
-        -- the rows of a page are all written
-        within : (n count : ℕ) (counts : List ℕ) → slice_get counts n ≡ Some count → sum (take n counts) + count ≤ sum counts
-        within n count [] e = absurd (none-some count e)
-        within zero count (x ∷ xs) e = let here : x ≡ count = cc in let all = sum_by-cons (λ (k : ℕ). k) x xs in let z = ap sum (take_none (x ∷ xs)) in omega (arith, here, all, z)
-        within (suc n) count (x ∷ xs) e =
-            let rest = within n count xs e in
-            let all = sum_by-cons (λ (k : ℕ). k) x xs in
-            let front = sum_by-cons (λ (k : ℕ). k) x (take n xs) in
-            omega (arith, rest, all, front)
-
         same : (n count : ℕ) → slice_get table.rows.counts n ≡ Some count → rows_at (lose table) n count ≡ rows_at table n count
-        same n count e = let few = within n count table.rows.counts e in take-within count (sum (take n table.rows.counts)) (length table.entries - table.pending) table.entries (omega (arith, few, counted))
-          where
-            take-within : (c d k : ℕ) (xs : List Entry) → d + c ≤ k → take c (drop d (take k xs)) ≡ take c (drop d xs)
-            take-within c zero k xs le = ap (take c) (drop_none (take k xs)) ∙ (take-short c k xs (omega (arith, le)) ∙ ap (take c) (sym (drop_none xs)))
-              where
-                take-short : (c k : ℕ) (xs : List Entry) → c ≤ k → take c (take k xs) ≡ take c xs
-                take-short zero k xs le = take_none (take k xs) ∙ sym (take_none xs)
-                take-short (suc c) zero xs le = absurd (omega (arith, le))
-                take-short (suc c) (suc k) [] le = refl
-                take-short (suc c) (suc k) (x ∷ xs) le = ap (λ (ys : List Entry). x ∷ ys) (take-short c k xs (omega (arith, le)))
-            take-within c (suc d) zero xs le = absurd (omega (arith, le))
-            take-within c (suc d) (suc k) [] le = refl
-            take-within c (suc d) (suc k) (x ∷ xs) le = take-within c d k xs (omega (arith, le))
+        same n count e = let few = sum-within table.rows.counts n count e in take-drop-take count (sum (take n table.rows.counts)) (length table.entries - table.pending) table.entries (omega (arith, few, counted))
 
 pub telling-stays : TellingStays
 telling-stays = record { sealed = tell-sealed; marked = tell-buffer; listed = tell-listed; voided = tell-voided; ready = tell-ready; lost = tell-lost }

@@ -1,14 +1,13 @@
 -- An empty table has the facts of a table.
-use Rattle.std.proofs.Common.{◌≡◌, ℕ, ◌+◌, ◌-◌, ◌<◌, ◌≤◌, Bool, true, false, cond, nat_lt, Option, Some, None, IfSome, IsTrue, List, [], ◌∷◌, ◌++◌, length, map, filter, refl, sym, ap, subst, arith, inl}
-use Rattle.std.specs.List.{slice_get, AllByRecursion}
+use Rattle.std.proofs.Common.{◌≡◌, ℕ, ◌+◌, ◌≤◌, Bool, true, false, cond, Option, Some, None, IfSome, [], refl, arith, inl, not-suc-le-zero}
+use Rattle.std.specs.List.{slice_get}
 use Rattle.std.proofs.lemmas.Nat.Gcd.{dvd-zero}
 use Rattle.std.proofs.lemmas.Bool.{false≢true}
-use Rattle.fl_model.specs.Record.{Plan, has_index, has_var, has_log, entries_per_page}
-use Rattle.fl_model.specs.Ring.{Shape, Ring, IsRing, fresh, oldest}
-use Rattle.fl_model.specs.Table.{Table, Entry, RingName, DataRing, IndexRing, VarRing, LogRing, fresh_table, ring_of, shape_of, full_pages, has_rows}
-use Rattle.fl_model.specs.Log.{IsSafe}
-use Rattle.fl_model.specs.Facts.{IsTable, is_some_ring, counts_in}
-use Rattle.fl_model.specs.Agrees.{BlobsOf, HoldsBlob}
+use Rattle.fl_model.specs.Record.{has_index, has_var, has_log}
+use Rattle.fl_model.specs.Ring.{Shape, Ring, IsRing, fresh}
+use Rattle.fl_model.specs.Table.{RingName, DataRing, IndexRing, VarRing, LogRing, fresh_table, ring_of, shape_of, has_rows}
+use Rattle.fl_model.specs.Facts.{is_some_ring, counts_in}
+use Rattle.fl_model.specs.Agrees.{BlobsOf}
 use Rattle.fl_model.specs.Fresh.{NewTablesStand}
 
 pub ring-fresh : (shape : Shape) → IsRing shape fresh
@@ -53,9 +52,6 @@ maybe-any P h false = tt
 nothing : {X : Type 0} (i : ℕ) (x : X) → slice_get [] i ≡ Some x → ⊥
 nothing i x e = cc
 
-below : (j : ℕ) → j < 0 → ⊥
-below j lt = omega arith
-
 pub new-stand : NewTablesStand
 new-stand plan = record {
   facts = record {
@@ -87,10 +83,10 @@ new-stand plan = record {
     blobs = λ i entry blob e k some. absurd (nothing i entry e);
     numbers = numbers;
     numbers_pending = λ some. absurd (some refl);
-    numbers_listed = λ lt. absurd (below (oldest fresh) lt);
+    numbers_listed = λ lt. absurd (not-suc-le-zero lt);
     agrees = record {
       listed = λ k page e. absurd (nothing k page e);
-      waiting = λ j n lt. absurd (below j lt);
+      waiting = λ j n lt. absurd (not-suc-le-zero lt);
       blobs = maybe-any (BlobsOf plan (fresh_table plan)) (λ i entry blob e. absurd (nothing i entry e)) (has_var plan);
     };
   };

@@ -18,7 +18,7 @@ use Rattle.fl_model.specs.Limits.{is_indexed, is_listed, numbers_of}
 use Rattle.fl_model.specs.MountLimit.{voids_at_end, ring_mount_limit, part_mount_limit, log_mount_limit, kept_in, full_mount_limit}
 use Rattle.fl_model.specs.Mount.{index_end, blob_end, renumber, least_alike}
 use Rattle.fl_model.specs.Facts.{IsTable, is_some_ring}
-use Rattle.fl_model.proofs.Lists.{slice_get-some, slice_get-short, last_or-get}
+use Rattle.fl_model.proofs.Lists.{slice_get-some, slice_get-short, last_or-get, any-at}
 use Rattle.fl_model.proofs.EntriesStayTold.{numbers-length}
 
 -- ---- which data pages are listed
@@ -92,21 +92,11 @@ listed-renumbered plan table number is void le = listed-behind plan table number
     begins true e h = absurd (true≢false e)
     begins false e h = omega (arith, h)
 
--- a data page that an index page lists is listed
-any-at : (p : ℕ → Bool) (xs : List ℕ) (k x : ℕ) → slice_get xs k ≡ Some x → p x ≡ true → list_any p xs ≡ true
-any-at p [] k x e t = absurd (none-some x e)
-any-at p (y ∷ ys) zero x e t = let same : y ≡ x = cc in let here : p y ≡ true = ap p same ∙ t in rw here refl
-any-at p (y ∷ ys) (suc k) x e t = by_first (p y) (any-at p ys k x e t)
-  where
-    by_first : (b : Bool) → list_any p ys ≡ true → (b || list_any p ys) ≡ true
-    by_first true rest = refl
-    by_first false rest = rest
-
 is-listed : (plan : Plan) (table : Table) (k first j : ℕ) → slice_get (firsts table) k ≡ Some first → j < entries_per_page plan → is_listed plan table (first + j) ≡ true
 is-listed plan table k first j e lt =
     any-at (λ f. nat_le f (first + j) && nat_lt (first + j) (f + entries_per_page plan)) (firsts table) k first e (grind (arith, nat_tests, lt))
 
-first-at : (pages : List IndexPage) (k : ℕ) (page : IndexPage) → slice_get pages k ≡ Some page → slice_get (map (λ (p : IndexPage). p.first) pages) k ≡ Some page.first
+pub first-at : (pages : List IndexPage) (k : ℕ) (page : IndexPage) → slice_get pages k ≡ Some page → slice_get (map (λ (p : IndexPage). p.first) pages) k ≡ Some page.first
 first-at [] k page e = absurd (none-some page e)
 first-at (p ∷ ps) zero page e = let same : p ≡ page = cc in rw same refl
 first-at (p ∷ ps) (suc k) page e = first-at ps k page e
@@ -157,8 +147,8 @@ fold-max n (x ∷ xs) =
 abbrev blob_page : Entry → ℕ
 blob_page entry = if blob_len entry.kept == 0 then 0 else entry.page + 1
 
-ends-append : (xs ys : List Entry) → end_of_blobs (xs ++ ys) ≡ max (end_of_blobs xs) (end_of_blobs ys)
-ends-append xs ys =
+pub blobs-append : (xs ys : List Entry) → end_of_blobs (xs ++ ys) ≡ max (end_of_blobs xs) (end_of_blobs ys)
+blobs-append xs ys =
     ap (fold max 0) (map-append blob_page xs ys)
     ∙ (fold-append max 0 (map blob_page xs) (map blob_page ys) ∙ fold-max (end_of_blobs xs) (map blob_page ys))
 
@@ -183,7 +173,7 @@ pages-end number (c ∷ cs) entries all =
     by_count false e void rows =
         let later = rows (let k = length-drop c entries in omega (arith, total, k)) in
         let first = fold-max (max 0 (end_of_blobs (take c entries))) (map (λ (page : ℕ × List Entry). end_of_blobs page.1) (pages_from (number + 1) cs (drop c entries))) in
-        let joined : end_of_blobs entries ≡ max (end_of_blobs (take c entries)) (end_of_blobs (drop c entries)) = ap end_of_blobs (sym (take-append-drop c entries)) ∙ ends-append (take c entries) (drop c entries) in
+        let joined : end_of_blobs entries ≡ max (end_of_blobs (take c entries)) (end_of_blobs (drop c entries)) = ap end_of_blobs (sym (take-append-drop c entries)) ∙ blobs-append (take c entries) (drop c entries) in
         omega (arith, first, later, joined)
 
 pub pages-tell : (table : Table) → sum table.rows.counts ≡ length table.entries →

@@ -1,6 +1,9 @@
 pub mod Performs
 pub mod Among
 pub mod Lists
+pub mod Names
+pub mod RowValues
+pub mod Fronts
 pub mod FullPages
 pub mod RingFactsStay
 pub mod Kept
@@ -8,7 +11,9 @@ pub mod Sealed
 pub mod MountAmongTables
 pub mod Pages
 pub mod Renumber
+pub mod TableImages
 pub mod TableSeals
+pub mod Accepted
 pub mod FullIndex
 pub mod PutAmongTables
 pub mod CopiesAreParts
@@ -17,6 +22,8 @@ pub mod Bare
 pub mod EntriesStayTold
 pub mod BlobsStay
 pub mod BlobEnds
+pub mod StoredRows
 pub mod BlobsJoined
 pub mod Fresh
 pub mod StandingPages
+pub mod SomeRing

@@ -1,13 +1,13 @@
 -- The bodies of a table's data pages, as its records are cut by counts.
 use Rattle.std.proofs.Common.{◌≡◌, ℕ, zero, suc, ◌+◌, ◌-◌, ◌≤◌, ◌==◌, Option, Some, None, List, [], ◌∷◌, ◌++◌, length, take, drop, get_or, refl, sym, ◌∙◌, ap, arith, if◌then◌else◌}
 use Rattle.std.proofs.lemmas.List.Sums.{sum_by-cons}
-use Rattle.std.proofs.lemmas.List.{drop-drop}
+use Rattle.std.proofs.lemmas.List.{drop-drop, take-take}
 use Rattle.std.specs.List.{slice_get, sum}
 use Rattle.std.proofs.lemmas.Option.{none-some}
 use Rattle.fl_model.specs.Record.{Plan}
 use Rattle.fl_model.specs.Table.{Entry}
 use Rattle.fl_model.specs.Layout.{data_body}
-use Rattle.fl_model.proofs.Lists.{drop_none, take_none}
+use Rattle.fl_model.proofs.Lists.{drop_none, take_none, drop-in-take}
 
 -- the body of a page with so many of these records, or none where it is void
 abbrev pub page_with : Plan → ℕ → ℕ → List Entry → Option (List ℕ)
@@ -46,12 +46,8 @@ pages-drop plan number entries counts zero h =
     let e : number ≡ number + 0 = omega arith in
     drop_none (pages_from plan number entries counts)
     ∙ (ap (λ n. pages_from plan n entries counts) e
-    ∙ (ap (λ (xs : List Entry). pages_from plan (number + 0) xs counts) (sym (drop_none entries) ∙ ap (λ n. drop n entries) (sym (sum_first counts)))
+    ∙ (ap (λ (xs : List Entry). pages_from plan (number + 0) xs counts) (sym (drop_none entries) ∙ ap (λ n. drop n entries) (sym (ap sum (take_none counts))))
     ∙ ap (pages_from plan (number + 0) (drop (sum (take 0 counts)) entries)) (sym (drop_none counts))))
-  where
-    sum_first : (xs : List ℕ) → sum (take 0 xs) ≡ 0
-    sum_first [] = refl
-    sum_first (x ∷ xs) = refl
 pages-drop plan number entries [] (suc pages) h = absurd (omega arith)
 pages-drop plan number entries (c ∷ counts) (suc pages) h =
     let e : number + 1 + pages ≡ number + suc pages = omega arith in
@@ -80,20 +76,6 @@ take_nothing : {X : Type 0} (n : ℕ) → let xs : List X = [] in take n xs ≡ 
 take_nothing zero = refl
 take_nothing (suc n) = refl
 
-drop_in_take : {X : Type 0} (m n : ℕ) (xs : List X) → drop m (take n xs) ≡ take (n - m) (drop m xs)
-drop_in_take zero n xs = drop_none (take n xs) ∙ (ap (λ k. take k xs) (let e : n ≡ n - 0 = omega arith in e) ∙ ap (take (n - 0)) (sym (drop_none xs)))
-drop_in_take {X} (suc m) zero xs =
-    let e : zero - suc m ≡ 0 = omega arith in
-    ap (drop (suc m)) (take_none xs) ∙ (drop_nothing {X = X} (suc m) ∙ (sym (take_none (drop (suc m) xs)) ∙ ap (λ k. take k (drop (suc m) xs)) (sym e)))
-drop_in_take {X} (suc m) (suc n) [] = sym (take_nothing {X = X} (suc n - suc m))
-drop_in_take (suc m) (suc n) (x ∷ xs) = drop_in_take m n xs ∙ ap (λ k. take k (drop m xs)) (let e : n - m ≡ suc n - suc m = omega arith in e)
-
-take_in_take : {X : Type 0} (m n : ℕ) (xs : List X) → m ≤ n → take m (take n xs) ≡ take m xs
-take_in_take zero n xs h = take_none (take n xs) ∙ sym (take_none xs)
-take_in_take (suc m) zero xs h = absurd (omega arith)
-take_in_take (suc m) (suc n) [] h = refl
-take_in_take (suc m) (suc n) (x ∷ xs) h = ap (λ ys. x ∷ ys) (take_in_take m n xs (omega arith))
-
 -- records behind those of the pages don't count
 pub pages-front : (plan : Plan) (number : ℕ) (entries : List Entry) (counts : List ℕ) (some : ℕ) → sum counts ≤ some →
     pages_from plan number (take some entries) counts ≡ pages_from plan number entries counts
@@ -101,8 +83,8 @@ pages-front plan number entries [] some h = refl
 pages-front plan number entries (c ∷ counts) some h =
     let total = sum_by-cons (λ (n : ℕ). n) c counts in
     let few : c ≤ some = omega (arith, total, h) in
-    let rest : drop c (take some entries) ≡ take (some - c) (drop c entries) = drop_in_take c some entries in
-    let first : take c (take some entries) ≡ take c entries = take_in_take c some entries few in
+    let rest : drop c (take some entries) ≡ take (some - c) (drop c entries) = drop-in-take c some entries in
+    let first : take c (take some entries) ≡ take c entries = take-take c some entries few in
     ap (λ (xs : List Entry). (if c == 0 then None else Some (data_body plan number xs)) ∷ pages_from plan (number + 1) (drop c (take some entries)) counts) first
     ∙ ap (λ (xs : List (Option (List ℕ))). page_with plan number c entries ∷ xs)
     (ap (λ (xs : List Entry). pages_from plan (number + 1) xs counts) rest ∙ pages-front plan (number + 1) (drop c entries) counts (some - c) (omega (arith, total, h)))

@@ -1,6 +1,6 @@
 -- What a ship leaves in the copy, however it ends.
 use Rattle.std.proofs.Common.{◌≡◌, ℕ, zero, suc, ◌+◌, ◌-◌, ◌<◌, ◌≤◌, Bool, cond, Option, Some, None, List, [], ◌∷◌, ◌++◌, length, map, take, drop, refl, sym, ◌∙◌, ap, subst, arith, ◌⊎◌, inl, inr, MatchOption, length-append}
-use Rattle.std.proofs.lemmas.List.{drop-drop, drop-take, take-append-le, drop-append-le, append-nil, drop_all, append_assoc}
+use Rattle.std.proofs.lemmas.List.{drop-drop, drop-take, take_all, take-append-le, drop-append-le, append-nil, drop_all, append_assoc}
 use Rattle.std.proofs.Math.Seq.{take-append_seam, drop-length}
 use Rattle.std.proofs.lemmas.Bool.{cases_lt}
 use Rattle.fl_base.specs.declared.types.CutKind.{CutKind}
@@ -76,7 +76,7 @@ leaves-drops Either before after left h (inl e) = subst (λ (t : Table). Drops (
 leaves-drops Either before after left h (inr e) = subst (λ (t : Table). Drops (records_in before) (records_in t)) (sym e) h
 
 -- .. and operations, however they end
-performs-drops : (plan : Plan) (rose : Bool) (operations : List (RingName × Kind)) (device : Device) (t : Table) (now : PartProgress Table) → TablePerforms plan rose operations device t now → Drops (records_in t) (records_in now.state)
+pub performs-drops : (plan : Plan) (rose : Bool) (operations : List (RingName × Kind)) (device : Device) (t : Table) (now : PartProgress Table) → TablePerforms plan rose operations device t now → Drops (records_in t) (records_in now.state)
 performs-drops plan rose [] device t now h = subst (λ (u : Table). Drops (records_in t) (records_in u)) (sym h.2) (drops-none (records_in t))
 performs-drops plan rose (operation ∷ operations) device t now h =
     first (cut_now device) h (λ g. performs-drops plan rose operations (counted operation.1 device) (effect_within plan operation t) now g)
@@ -129,14 +129,8 @@ stops-keep held given rest t h = by_order (cases_lt (length (held ++ given)) (h.
     by_order (inl lt) = record {
       given_up = h.gone;
       first = length all;
-      kept = front ∙ ap (drop h.gone) (take-all (h.gone + k) all (omega (arith, lt)) ∙ (sym (take-append_seam all rest) ∙ ap (take (length all)) (append_assoc held given rest)));
+      kept = front ∙ ap (drop h.gone) (take_all (h.gone + k) all (omega (arith, lt)) ∙ (sym (take-append_seam all rest) ∙ ap (take (length all)) (append_assoc held given rest)));
     }
-      where
-        take-all : (n : ℕ) (ys : List Record) → length ys ≤ n → take n ys ≡ ys
-        take-all zero [] h = refl
-        take-all (suc n) [] h = refl
-        take-all zero (y ∷ ys) h = absurd (omega (arith, h))
-        take-all (suc n) (y ∷ ys) h = ap (λ zs. y ∷ zs) (take-all n ys (omega (arith, h)))
 
 -- a record joins
 joined-has : (plan : Plan) (item : Record) (t : Table) (all : List Record) → Has all (records_in t) → Has (all ++ item ∷ []) (records_in (put_joined plan item t))

@@ -7,6 +7,7 @@ use Rattle.std.proofs.lemmas.Grind.{common_steps}
 use Rattle.std.proofs.lemmas.Int.{ints}
 use Rattle.std.proofs.Math.Nat.{div-mul-le_self}
 use Rattle.std.proofs.lemmas.Nat.{le-div}
+use Rattle.std.proofs.lemmas.Bool.{eq-eqb}
 use Rattle.fl_model.specs.Record.{Record}
 use Rattle.fl_model.specs.Operators.{column_of, group_of, group_numbers, group_values, group_from, aggregate, total_of}
 use Rattle.fl_ops.specs.declared.tally.Tally.{Tally}
@@ -57,9 +58,6 @@ split width g key (item ∷ items) some e h =
     let le : g ≤ item.key / width = omega (arith, div-mono width key item.key some (omega (arith, h.0)), e) in
     split-next width g item items some (eqb (item.key / width) g) refl le h.1 (λ is. split width g item.key items some is h.1)
 
-is-eq : (a b : ℕ) → a ≡ b → eqb a b ≡ true
-is-eq a b e = grind (arith, common_steps)
-
 gt-eq : (a b : ℕ) → b < a → eqb a b ≡ false
 gt-eq a b e = grind (arith, common_steps)
 
@@ -76,7 +74,7 @@ same-far width g (item ∷ items) h = rw (gt-eq (item.key / width) g h.0) refl
 
 rest-beyond : (width g : ℕ) (items : List Record) → Split width g items → Beyond width g (rest_of width g items)
 rest-beyond width g items (far items' h) = let P : List Record → Type 0 = λ xs. Beyond width g xs in subst P (sym (rest-far width g items h)) h
-rest-beyond width g (item ∷ items) (same item' items' e s) = rw (is-eq (item.key / width) g e) (rest-beyond width g items s)
+rest-beyond width g (item ∷ items) (same item' items' e s) = rw (eq-eqb (item.key / width) g e) (rest-beyond width g items s)
 
 -- the records of the group
 filter-far : (width g : ℕ) (items : List Record) → Beyond width g items → filter (λ item. item.key / width == g) items ≡ []
@@ -85,14 +83,14 @@ filter-far width g (item ∷ items) h = rw (gt-eq (item.key / width) g h.0) (fil
 
 filter-same : (width g : ℕ) (items : List Record) → Split width g items → filter (λ item. item.key / width == g) items ≡ same_of width g items
 filter-same width g items (far items' h) = filter-far width g items h ∙ sym (same-far width g items h)
-filter-same width g (item ∷ items) (same item' items' e s) = rw (is-eq (item.key / width) g e) (ap (λ x. item ∷ x) (filter-same width g items s))
+filter-same width g (item ∷ items) (same item' items' e s) = rw (eq-eqb (item.key / width) g e) (ap (λ x. item ∷ x) (filter-same width g items s))
 
 -- the records of a later group
 filter-other : (width g n : ℕ) (items : List Record) → Split width g items → g < n → filter (λ item. item.key / width == n) items ≡ filter (λ item. item.key / width == n) (rest_of width g items)
 filter-other width g n items (far items' h) lt = ap (filter (λ item. item.key / width == n)) (sym (rest-far width g items h))
 filter-other width g n (item ∷ items) (same item' items' e s) lt =
     let other : eqb (item.key / width) n ≡ false = lt-eq (item.key / width) n (omega (arith, e, lt)) in
-    rw (is-eq (item.key / width) g e, other) (filter-other width g n items s lt)
+    rw (eq-eqb (item.key / width) g e, other) (filter-other width g n items s lt)
 
 filter-twice : {X : Type 0} (p : X → Bool) (xs : List X) → filter p (filter p xs) ≡ filter p xs
 filter-twice p [] = refl
@@ -123,8 +121,8 @@ numbers-other : (width g : ℕ) (items : List Record) → Split width g items �
 numbers-other width g items (far items' h) = filter-above g (group_numbers width items) (numbers-above width g items h) ∙ ap (group_numbers width) (sym (rest-far width g items h))
 numbers-other width g (item ∷ items) (same item' items' e s) =
     let drops : filter (λ n. not (n == g)) (group_numbers width (item ∷ items)) ≡ filter (λ n. not (n == g)) (filter (λ n. not (n == g)) (group_numbers width items))
-    = rw (is-eq (item.key / width) g e) (ap (λ k. filter (λ n. not (n == g)) (filter (λ n. not (n == k)) (group_numbers width items))) e) in
-    let keeps : rest_of width g (item ∷ items) ≡ rest_of width g items = rw (is-eq (item.key / width) g e) refl in
+    = rw (eq-eqb (item.key / width) g e) (ap (λ k. filter (λ n. not (n == g)) (filter (λ n. not (n == k)) (group_numbers width items))) e) in
+    let keeps : rest_of width g (item ∷ items) ≡ rest_of width g items = rw (eq-eqb (item.key / width) g e) refl in
     drops ∙ filter-twice (λ n. not (n == g)) (group_numbers width items) ∙ numbers-other width g items s ∙ ap (group_numbers width) (sym keeps)
 
 filter_map-above : {X : Type 0} (g : ℕ) (f h : ℕ → Option X) (ns : List ℕ) → AllAbove g ns → ((n : ℕ) → g < n → f n ≡ h n) → filter_map f ns ≡ filter_map h ns
@@ -174,17 +172,17 @@ take_group column width g t (item ∷ items) =
 taken-rest : (column width g : ℕ) (t : Tally) (items : List Record) → Split width g items → (take_group column width g t items).rest ≡ rest_of width g items
 taken-rest column width g t [] s = refl
 taken-rest column width g t (item ∷ items) (far items' h) = rw (gt-eq (item.key / width) g h.0) refl
-taken-rest column width g t (item ∷ items) (same item' items' e s) = rw (is-eq (item.key / width) g e) (taken-rest column width g (tally_more t (column_of item column)) items s)
+taken-rest column width g t (item ∷ items) (same item' items' e s) = rw (eq-eqb (item.key / width) g e) (taken-rest column width g (tally_more t (column_of item column)) items s)
 
 taken-tally : (column width g : ℕ) (t : Tally) (items : List Record) → Split width g items → (take_group column width g t items).tally ≡ tallies t (map (λ item. column_of item column) (same_of width g items))
 taken-tally column width g t [] s = refl
 taken-tally column width g t (item ∷ items) (far items' h) = rw (gt-eq (item.key / width) g h.0) refl
-taken-tally column width g t (item ∷ items) (same item' items' e s) = rw (is-eq (item.key / width) g e) (taken-tally column width g (tally_more t (column_of item column)) items s)
+taken-tally column width g t (item ∷ items) (same item' items' e s) = rw (eq-eqb (item.key / width) g e) (taken-tally column width g (tally_more t (column_of item column)) items s)
 
 front-values : (column width : ℕ) (item : Record) (items : List Record) → Split width (item.key / width) items
     → group_values column width (item.key / width) (item ∷ items) ≡ column_of item column ∷ map (λ x. column_of x column) (same_of width (item.key / width) items)
 front-values column width item items s =
-    rw (is-eq (item.key / width) (item.key / width) refl) (ap (λ xs. column_of item column ∷ map (λ x. column_of x column) xs) (filter-same width (item.key / width) items s))
+    rw (eq-eqb (item.key / width) (item.key / width) refl) (ap (λ xs. column_of item column ∷ map (λ x. column_of x column) xs) (filter-same width (item.key / width) items s))
 
 front-group : (column width : ℕ) (item : Record) (items : List Record) → Split width (item.key / width) items
     → group_from (item.key / width) (group_values column width (item.key / width) (item ∷ items))
@@ -230,7 +228,7 @@ aggregate-taken column width g item items before t rest some h eb eg et =
 -- one more record of the group, and the first after it
 pub take_group-more : (column width g : ℕ) (t : Tally) (item : Record) (items : List Record) → item.key / width ≡ g
     → take_group column width g t (item ∷ items) ≡ take_group column width g (tally_more t (column_of item column)) items
-take_group-more column width g t item items e = rw (is-eq (item.key / width) g e) refl
+take_group-more column width g t item items e = rw (eq-eqb (item.key / width) g e) refl
 
 pub take_group-stop : (column width g : ℕ) (t : Tally) (item : Record) (items : List Record) → (item.key / width ≡ g → ⊥)
     → take_group column width g t (item ∷ items) ≡ record { tally = t; rest = item ∷ items }

@@ -6,6 +6,5 @@ pub mod GroupLists
 pub mod GroupSteps
 pub mod Joins
 pub mod Room
-pub mod RowValues
 pub mod Selections
 pub mod Sums

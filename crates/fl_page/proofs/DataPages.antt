@@ -1,14 +1,16 @@
 -- The rows of a data page that was sealed.
-use Rattle.std.proofs.Common.{refl, Bool, true, false, ◌==◌, ◌&&◌, ◌≡◌, ℕ, ◌+◌, ◌-◌, ◌*◌, ◌^◌, ◌<◌, ◌≤◌, List, [], ◌∷◌, ◌++◌, length, map, replicate, sym, ap, subst, ◌∙◌, arith, append_assoc, length-append}
+use Rattle.std.proofs.Common.{refl, Bool, true, false, ◌==◌, ◌&&◌, ◌≡◌, ℕ, ◌+◌, ◌-◌, ◌*◌, ◌^◌, ◌<◌, ◌≤◌, List, [], ◌∷◌, ◌++◌, length, map, replicate, sym, ap, subst, ◌∙◌, arith, append_assoc, length-append, suc, Option, Some}
 use Rattle.std.proofs.lemmas.List.{length-replicate}
 use Rattle.std.proofs.lemmas.Nat.{le-div}
 use Rattle.std.specs.Int.{byte_at}
-use Rattle.std.specs.List.{flat_map, AllByRecursion}
+use Rattle.std.specs.List.{flat_map, AllByRecursion, slice_get}
+use Rattle.std.proofs.lemmas.Bool.{lt-ltb}
 use Rattle.fl_base.specs.Bytes.{all_are}
 use Rattle.fl_model.specs.Record.{Plan, RowLayout, row_layout, layout_len}
 use Rattle.fl_model.specs.Row.{Row, IsStorable, bytes_of_row, le, stored_row}
 use Rattle.fl_model.specs.Table.{Entry}
 use Rattle.fl_model.specs.Layout.{rows_body, data_body, bitmap_of, committed}
+use Rattle.fl_model.specs.Query.{is_above}
 use Rattle.fl_schema.specs.Form.{layout_with}
 use Rattle.fl_schema.specs.declared.column.ColumnType.{ColumnType}
 use Rattle.fl_schema.specs.declared.schema.KeyWidth.{KeyWidth}
@@ -18,6 +20,7 @@ use Rattle.fl_page.specs.Header.{page_count}
 use Rattle.fl_page.specs.Page.{rows_from, rows_in, IsGoodPage}
 use Rattle.fl_page.proofs.WriterSteps.{layout_some}
 use Rattle.fl_page.proofs.RowBytes.{rows_from-rows}
+use Rattle.fl_page.specs.Steps.{Ascends}
 
 pub length-rows : (key : KeyWidth) (types : List ColumnType) (blobs : Bool) (rows : List Row) → AllByRecursion (IsStorable (layout_with key types blobs)) rows
     → length (flat_map (bytes_of_row (layout_with key types blobs)) rows) ≡ length rows * layout_len (layout_with key types blobs)
@@ -100,3 +103,13 @@ behind_six true true true true true true = refl
 pub rows_body-begun : (len : ℕ) (layout : RowLayout) (number bitmap : ℕ) (rows : List Row) → all_are 255 (rows_body len layout number bitmap rows) ≡ false
 rows_body-begun len layout number bitmap rows =
     behind_six (byte_at 0 number == 255) (byte_at 1 number == 255) (byte_at 2 number == 255) (byte_at 3 number == 255) (byte_at 0 (length rows) == 255) (byte_at 1 (length rows) == 255)
+
+-- the rows of records whose keys ascend
+pub entries-ascend : (above : Option ℕ) (entries : List Entry) → ((entry : Entry) → slice_get entries 0 ≡ Some entry → is_above above entry.kept.key ≡ true)
+    → ((i j : ℕ) (a b : Entry) → i < j → slice_get entries i ≡ Some a → slice_get entries j ≡ Some b → a.kept.key < b.kept.key) → Ascends above (map stored_row entries)
+entries-ascend above [] first ascending = tt
+entries-ascend above (entry ∷ entries) first ascending = (
+  first entry refl,
+  entries-ascend (Some entry.kept.key) entries (λ next is. lt-ltb entry.kept.key next.kept.key (ascending 0 1 entry next (omega arith) refl is))
+      (λ i j a b less. ascending (suc i) (suc j) a b (omega (arith, less))),
+)

@@ -1,13 +1,14 @@
 -- What a page is tested for, and a search among its rows.
-use Rattle.std.proofs.Common.{◌≡◌, ℕ, ◌+◌, ◌-◌, ◌*◌, ◌/◌, ◌<◌, ◌≤◌, Bool, List, length, take, drop, slice_range, sym, ◌∙◌, subst, arith, length-drop, mul-le-mul, mul-le-mul_right}
+use Rattle.std.proofs.Common.{◌≡◌, ℕ, ◌+◌, ◌-◌, ◌*◌, ◌/◌, ◌<◌, ◌≤◌, Bool, true, List, length, drop, slice_range, refl, sym, ◌∙◌, subst, arith, length-drop, mul-le-mul, mul-le-mul_right}
 use Rattle.std.proofs.lemmas.List.{length-take-le}
 use Rattle.std.proofs.lemmas.Nat.{le-div}
-use Rattle.fl_model.specs.Record.{layout_len}
+use Rattle.std.proofs.lemmas.Bool.{eq-eqb, eqb-true, le-leb, leb-true, and_parts}
+use Rattle.fl_model.specs.Record.{RowLayout, layout_len}
 use Rattle.fl_schema.specs.Form.{layout_with}
 use Rattle.fl_schema.specs.declared.column.ColumnType.{ColumnType}
 use Rattle.fl_schema.specs.declared.schema.KeyWidth.{KeyWidth}
 use Rattle.fl_page.specs.Header.{page_number, page_count}
-use Rattle.fl_page.specs.Page.{IsGoodPage}
+use Rattle.fl_page.specs.Page.{IsGoodPage, has_form}
 use Rattle.fl_page.proofs.WriterSteps.{layout_some}
 
 -- the bytes of all rows have room in a number
@@ -61,5 +62,12 @@ more-than less = omega (arith, less)
 pub up-to : {m n : ℕ} → m < n + 1 → m ≤ n
 up-to less = omega (arith, less)
 
-pub some-rows : (count : ℕ) → (count ≡ 0 → ⊥) → 1 ≤ count
-some-rows count some = omega (arith, some)
+-- a page is good where it has the form of one
+pub good-form : (layout : RowLayout) (number : ℕ) (page : List ℕ) → IsGoodPage layout number page → has_form layout number page ≡ true
+good-form layout number page g = rw (eq-eqb (page_number page) number g.number_is, le-leb 1 (page_count page) g.some, le-leb (page_count page) ((length page - 24) / layout_len layout) g.room) refl
+
+pub form-good : (layout : RowLayout) (number : ℕ) (page : List ℕ) → has_form layout number page ≡ true → IsGoodPage layout number page
+form-good layout number page h =
+    let a = and_parts _ _ h in
+    let b = and_parts _ _ a.0 in
+    record { number_is = eqb-true _ _ b.0; some = leb-true _ _ b.1; room = leb-true _ _ a.1 }

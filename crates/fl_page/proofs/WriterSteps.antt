@@ -1,14 +1,15 @@
 -- A page writer, step by step.
 use Rattle.std.proofs.Common.{◌≡◌, ℕ, ◌+◌, ◌-◌, ◌*◌, ◌/◌, ◌<◌, ◌≤◌, Bool, Some, slice_get, slice_range, List, [], ◌∷◌, ◌++◌, length, take, drop, replicate, refl, sym, ap, ◌∙◌, arith, append_assoc, length-append, length-drop}
-use Rattle.std.proofs.lemmas.List.{take_at, drop_at, drop-drop, drop-take, drop-replicate, length-replicate, length-take-le, replicate-append-replicate, append-nil, drop-append-le}
+use Rattle.std.proofs.lemmas.List.{take_at, drop_at, drop-drop, drop-take, drop-replicate, length-replicate, length-take-le, replicate-append-replicate, drop-append-le, flat_map_more}
 use Rattle.std.proofs.Math.Nat.{lt_of_mul-lt-mul_right, div-mul-le_self, mul-le-mul_right}
 use Rattle.std.proofs.lemmas.Nat.{le-div}
-use Rattle.std.specs.List.{flat_map, AllByRecursion}
+use Rattle.std.specs.List.{flat_map}
 use Rattle.fl_base.specs.Bytes.{splice}
 use Rattle.fl_base.proofs.Ranges.{length-splice, drop-splice, take_slice, drop_slice}
 use Rattle.fl_model.specs.Record.{RowLayout, layout_len}
 use Rattle.fl_model.specs.Row.{Row, IsStorable, bytes_of_row, row_in}
 use Rattle.fl_model.specs.Layout.{rows_body}
+use Rattle.fl_model.proofs.Lists.{each-push}
 use Rattle.fl_schema.specs.Form.{layout_with}
 use Rattle.fl_schema.specs.declared.column.ColumnType.{ColumnType}
 use Rattle.fl_schema.specs.declared.schema.KeyWidth.{KeyWidth}
@@ -35,14 +36,6 @@ drop_spliced xs at bs least within =
     ∙ ap (λ (l : List ℕ). l ++ (bs ++ drop (at + length bs) xs)) (ap (λ (k : ℕ). drop 16 (take k xs)) split ∙ drop-take 16 (at - 16) xs)
     ∙ ap (λ (l : List ℕ). take (at - 16) (drop 16 xs) ++ (bs ++ l)) tail
 
-flat_map-push : (f : Row → List ℕ) (rows : List Row) (row : Row) → flat_map f (rows ++ row ∷ []) ≡ flat_map f rows ++ f row
-flat_map-push f [] row = append-nil (f row)
-flat_map-push f (r ∷ rs) row = ap (λ (l : List ℕ). f r ++ l) (flat_map-push f rs row) ∙ sym (append_assoc (f r) (flat_map f rs) (f row))
-
-all-push : (P : Row → Type 0) (rows : List Row) (row : Row) → AllByRecursion P rows → P row → AllByRecursion P (rows ++ row ∷ [])
-all-push P [] row all last = (last, tt)
-all-push P (r ∷ rs) row all last = (all.0, all-push P rs row all.1 last)
-
 pub Gathers-push : (key : KeyWidth) (types : List ColumnType) (blobs : Bool) (rows : List Row) (row : Row) (w : WriterState) → IsStorable (layout_with key types blobs) row
     → w.end + layout_len (layout_with key types blobs) ≤ length w.body → Gathers (layout_with key types blobs) rows w
     → Gathers (layout_with key types blobs) (rows ++ row ∷ []) (record { body = splice w.body w.end (bytes_of_row (layout_with key types blobs) row); count = w.count + 1; end = w.end + layout_len (layout_with key types blobs) })
@@ -66,9 +59,9 @@ Gathers-push key types blobs rows row w store room is =
           ∙ ap (λ (l : List ℕ). l ++ (bs ++ drop (length front + length bs) (front ++ rest))) (take_at front rest (length front) refl)
           ∙ ap (λ (l : List ℕ). front ++ (bs ++ l)) (sym (drop-drop (length bs) (length front) (front ++ rest)) ∙ ap (λ (l : List ℕ). drop (length bs) l) (drop_at front rest (length front) refl) ∙ drop-replicate (length bs) (length w.body - w.end) 255)
           ∙ sym (append_assoc front bs (replicate (length w.body - w.end - length bs) 255))
-          ∙ ap (λ (l : List ℕ). l ++ replicate (length w.body - w.end - length bs) 255) (sym (flat_map-push (bytes_of_row layout) rows row))
+          ∙ ap (λ (l : List ℕ). l ++ replicate (length w.body - w.end - length bs) 255) (sym (sym (flat_map_more (bytes_of_row layout) [] rows row)))
           ∙ ap (λ (k : ℕ). flat_map (bytes_of_row layout) (rows ++ row ∷ []) ++ replicate k 255) (omega (arith, size, whole));
-      storable = all-push (IsStorable layout) rows row is.storable store;
+      storable = each-push (IsStorable layout) rows row is.storable store;
     }
 
 -- the body with its header

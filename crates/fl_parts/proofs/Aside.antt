@@ -1,6 +1,6 @@
 -- The newest page with rows so far, where an index page lists it: whether it stays the newest, and what is known then.
 use Rattle.std.proofs.Common.{◌≡◌, ℕ, zero, suc, ◌+◌, ◌-◌, ◌%◌, ◌<◌, ◌≤◌, inl, inr, Bool, true, false, cond, ◌==◌, nat_lt, max, Option, Some, None, List, length, set, refl, sym, ◌∙◌, ap, subst, arith}
-use Rattle.std.specs.Prelude.{option_map, unwrap_or, slice_index, slice_set}
+use Rattle.std.specs.Prelude.{option_map, unwrap_or, slice_set}
 use Rattle.std.proofs.lemmas.Bool.{cases_lt, eqb-true, lt-ltb, and_parts, not-true}
 use Rattle.fl_index.specs.Page.{full_view}
 use Rattle.fl_model.specs.Layout.{Full}
@@ -14,7 +14,7 @@ use Rattle.fl_parts.specs.declared.mount_fault.MountFault.TheVariants.{BadPage, 
 use Rattle.fl_parts.specs.declared.known.Known.{Known}
 use Rattle.fl_parts.specs.declared.known.Listed.{Listed}
 use Rattle.fl_parts.proofs.PageChecks.{listed-unread, no_both}
-use Rattle.fl_parts.proofs.NextPage.{void-run, end-split, noted-here, noted-other}
+use Rattle.fl_parts.proofs.NextPage.{void-run, end-split, noted-set}
 
 abbrev pub fault_of : Option Refusal → Option MountFault
 fault_of fault = option_map (λ bad. BadPage bad) fault
@@ -100,7 +100,7 @@ module _ (t : Come) (k n : ℕ) (listed : Listed) (known : Known) (counts : List
             ];
             rows = omega (arith, rows_is, h.counted.rows, run.rows, count);
             last = last_is ∙ sym (run.last ∙ last-aside);
-            noted = λ i low high. subst (λ p. AreNoted t 0 n (set counts (p % length counts) listed.full.count)) (sym h.number_is) all_noted i low high;
+            noted = λ i low high. subst (λ p. AreNoted t 0 n (set counts (p % length counts) listed.full.count)) (sym h.number_is) (noted-set t h.m n listed.full.count counts (omega (arith, h.within, fits)) (omega (arith, fits)) (sym (ap (λ (f : Full). f.count) facts-aside)) h.counted.noted h.noted) i low high;
           };
           voids = omega (arith, voids_is, h.voids, run.voids, one);
           blob_end = omega (arith, end_is, h.blob_end, end-split (facts_on t) t.oldest (suc h.m) q n (omega (arith, h.within)), end);
@@ -108,13 +108,3 @@ module _ (t : Come) (k n : ℕ) (listed : Listed) (known : Known) (counts : List
           cause = h.cause ∙ (ap (λ (o : Option MountFault). first_of o (first_of (fault_of known.fault) (left t k n))) (check-fine up)
               ∙ ap (λ (o : Option Refusal). first_of (fault_of o) (left t k n)) none);
         }
-      where
-        all_noted : AreNoted t 0 n (set counts ((t.oldest + h.m) % length counts) listed.full.count)
-        all_noted i low high = elim (cases_lt i h.m) [
-          | inl less ↦ noted-other t h.m i listed.full.count counts (λ e. omega (arith, less, e)) (omega (arith, high, fits)) (omega (arith, h.within, fits)) (h.counted.noted i low less)
-          | inr ge ↦ elim (cases_lt h.m i) [
-            | inl above ↦ noted-other t h.m i listed.full.count counts (λ e. omega (arith, above, e)) (omega (arith, high, fits)) (omega (arith, h.within, fits)) (h.noted i (omega (arith, above)) high)
-            | inr le ↦ subst (λ j. slice_index (set counts ((t.oldest + h.m) % length counts) listed.full.count) ((t.oldest + j) % length (set counts ((t.oldest + h.m) % length counts) listed.full.count)) ≡ (facts_on t (t.oldest + j)).count)
-                (let e : h.m ≡ i = omega (arith, ge, le) in e) (noted-here t h.m listed.full.count counts (omega (arith, h.within, fits)) (sym (ap (λ (f : Full). f.count) facts-aside)))
-          ]
-        ]

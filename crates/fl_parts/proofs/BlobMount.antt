@@ -1,13 +1,15 @@
 -- How the mount of variable data ends, for a table.
-use Rattle.std.proofs.Common.{◌≡◌, ℕ, ◌+◌, ◌*◌, ◌≤◌, Bool, Some, Result, Ok, Err, List, sym, ◌∙◌, ap, subst, arith}
+use Rattle.std.proofs.Common.{◌≡◌, ℕ, ◌+◌, ◌*◌, ◌≤◌, Bool, Result, Ok, Err, List, sym, ◌∙◌, ap, subst, arith}
 use Rattle.std.proofs.Math.Nat.{mul-le-mul_left, mul-le-mul_right}
+use Rattle.std.proofs.lemmas.Option.{same_Some}
 use Rattle.fl_flash.specs.Flash.{FlashState}
 use Rattle.fl_model.specs.Mount.{renumber}
 use Rattle.fl_model.specs.Record.{Plan}
 use Rattle.fl_model.specs.Ring.{Ring}
-use Rattle.fl_model.specs.Table.{Table, Entry, RingName, VarRing}
-use Rattle.fl_model.specs.Within.{repair_within, effect_within, TablePerforms}
-use Rattle.fl_model.specs.Work.{Kind, Device, PartProgress}
+use Rattle.fl_model.specs.Table.{Table, Entry, VarRing}
+use Rattle.fl_model.specs.Within.{repair_within, TablePerforms}
+use Rattle.fl_model.specs.Work.{Device, PartProgress}
+use Rattle.fl_model.proofs.Fronts.{performed-front}
 use Rattle.fl_frame.specs.Reads.{FewReads}
 use Rattle.fl_ring.specs.Mounting.{search_reads}
 use Rattle.fl_ring.specs.Repairing.{Beside}
@@ -16,7 +18,6 @@ use Rattle.fl_ring.specs.declared.fault.RingFault.{RingFault}
 use Rattle.fl_ring.specs.declared.fault.RingFault.TheVariants.{Flash, BadHead, BadGap, BadPage, NoNumber}
 use Rattle.fl_parts.specs.Blobs.{AreIn, AreLed}
 use Rattle.fl_parts.specs.BlobMount.{Rests, MountsWell, MountEnds}
-use Rattle.fl_parts.proofs.Fronts.{front-left}
 use Rattle.fl_parts.proofs.Renumbered.{held-below}
 use Rattle.fl_parts.proofs.VarFacts.{placed-in}
 use Rattle.fl_parts.proofs.VarRepairs.{done-keeps, repairs-beside}
@@ -29,7 +30,7 @@ module _ (old v : VarData) (f g : FlashState) (first : ℕ) (plan : Plan) (table
   -- repairs change the ring alone
   entries_left : (now : PartProgress Table) → TablePerforms plan rose (repair_within plan VarRing (renumber plan VarRing table)) device (renumber plan VarRing table) now → now.state.entries ≡ table.entries
   entries_left now did =
-      let front = front-left (λ (o : RingName × Kind). o.1) (effect_within plan) rose (repair_within plan VarRing (renumber plan VarRing table)) device (renumber plan VarRing table) now did in
+      let front = performed-front plan rose (repair_within plan VarRing (renumber plan VarRing table)) device (renumber plan VarRing table) now did in
       ap (λ (t : Table). t.entries) (repairs-beside plan table now.state front).3
 
   well : mounting.MountsWell plan table rose device v g → MountsWell first plan table rose device v g
@@ -48,12 +49,9 @@ module _ (old v : VarData) (f g : FlashState) (first : ℕ) (plan : Plan) (table
           begins = ap (λ (r : rings.Shape). r.first) (same-shape old v same) ∙ rests.planned.begins;
         };
         in_pages = w.stands;
-        placed = λ before is inside. placed-in plan ring.ring w.now.state.entries (kept.inside (subst (λ (r : Ring). AreIn plan r table.entries) (one before (sym is ∙ rests.in_pages.ring_is)) inside));
+        placed = λ before is inside. placed-in plan ring.ring w.now.state.entries (kept.inside (subst (λ (r : Ring). AreIn plan r table.entries) (same_Some before rests.in_pages.ring (sym is ∙ rests.in_pages.ring_is)) inside));
         below = let le = held-below plan ring.ring table (subst (λ (es : List Entry). AreLed plan ring.ring es) entries kept.led) in omega (arith, le, ring.next);
       }
-    where
-      one : (before : Ring) → Some before ≡ Some rests.in_pages.ring → before ≡ rests.in_pages.ring
-      one before e = cc
 
   pub mount-ends : (result : Result (Unit {0}) RingFault) → mounting.MountEnds plan table rose device old result v g → MountEnds first plan table rose device old result v g
   mount-ends (Ok u) h = well h

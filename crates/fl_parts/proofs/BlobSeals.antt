@@ -1,5 +1,5 @@
 -- What the seals of variable data make of their table.
-use Rattle.std.proofs.Common.{◌≡◌, ℕ, suc, ◌+◌, ◌-◌, ◌*◌, ◌<◌, ◌≤◌, inl, Bool, true, false, cond, Option, Some, None, IfSome, option_map, List, [], ◌∷◌, ◌++◌, length, refl, sym, ◌∙◌, ap, subst, arith, length-append}
+use Rattle.std.proofs.Common.{◌≡◌, ℕ, suc, ◌+◌, ◌-◌, ◌*◌, ◌<◌, ◌≤◌, inl, Bool, true, false, cond, Option, Some, None, IfSome, option_map, List, [], ◌∷◌, length, refl, sym, ◌∙◌, ap, subst, arith, length-append}
 use Rattle.std.proofs.Math.Path.{fun_ext}
 use Rattle.std.proofs.Math.Nat.{mod-lt, add-mul}
 use Rattle.std.proofs.lemmas.List.{take_all}
@@ -15,7 +15,8 @@ use Rattle.fl_model.specs.Ring as model
 use Rattle.fl_model.specs.Table.{Table, Entry, RingName, DataRing, IndexRing, VarRing, LogRing, shape_of, is_dirty, seal_buffer, after_seal, after_seals, lose, written}
 use Rattle.fl_model.specs.Within.{seal_within, seals_within, effect_within, all_done}
 use Rattle.fl_model.specs.Work.{Kind, Body, Mark, VoidMark, Erase, Device}
-use Rattle.fl_model.proofs.Sealed.{sealed-next, sealed-torn}
+use Rattle.fl_model.proofs.Fronts.{IsFront, performed-front}
+use Rattle.fl_model.proofs.Lists.{each-append, each-front}
 use Rattle.fl_ring.specs.Ring.{OutsideStands}
 use Rattle.fl_parts.specs.Blobs.{AreIn, IsPlanned, IsStanding}
 use Rattle.fl_parts.specs.Pages.{HoldsTable, Rests, bytes_in, place_in}
@@ -23,7 +24,7 @@ use Rattle.fl_parts.proofs.BlobSteps.{AreVar}
 use Rattle.fl_parts.proofs.VarFacts.{HasVar, blobs-in, front-of, var-begun, var-erased, var-sealed}
 use Rattle.fl_parts.proofs.BlobTables.{HoldsVar, IsBlobbed, planned-var, ring-blobbed, ring-holds, standing-holds, var-shape}
 use Rattle.fl_parts.proofs.TablePages.{lost-twice}
-use Rattle.fl_parts.proofs.Fronts.{IsFront, front-left}
+use Rattle.fl_parts.proofs.Fronts.{IsNumberedTo, up_to, begun_number, sealed_number, erased-number}
 use Rattle.fl_parts.proofs.Plain.{IsPlainTable, table-facts}
 use Rattle.fl_var.specs.Memory.{next_in, page_in, var_shape}
 use Rattle.fl_var.specs.Placing.{Breaks}
@@ -39,14 +40,6 @@ IsOfVar LogRing = ⊥
 
 abbrev pub AreOfVar : List (RingName × Kind) → Type 0
 AreOfVar operations = AllByRecursion (λ operation. IsOfVar operation.0) operations
-
-pub front-of_var : (front others : List (RingName × Kind)) → AreOfVar (front ++ others) → AreOfVar front
-front-of_var [] others h = tt
-front-of_var (o ∷ front) others h = (h.0, front-of_var front others h.1)
-
-all_of : (xs ys : List (RingName × Kind)) → AreOfVar xs → AreOfVar ys → AreOfVar (xs ++ ys)
-all_of [] ys a b = b
-all_of (x ∷ xs) ys a b = (a.0, all_of xs ys a.1 b)
 
 -- those of a seal are at most three
 seal_of : (plan : Plan) (table : Table) → AreOfVar (seal_within plan VarRing table)
@@ -66,7 +59,7 @@ seal_few plan table = erase (is_dirty VarRing (seal_buffer plan VarRing table))
 pub seals-of_var : (plan : Plan) (seals : List RingName) (table : Table) → AreVar seals → AreOfVar (seals_within plan seals table)
 seals-of_var plan [] table are = tt
 seals-of_var plan (VarRing ∷ seals) table are =
-    all_of (seal_within plan VarRing table) (seals_within plan seals (after_seal plan VarRing table)) (seal_of plan table) (seals-of_var plan seals (after_seal plan VarRing table) are)
+    each-append (λ (operation : RingName × Kind). IsOfVar operation.0) (seal_within plan VarRing table) (seals_within plan seals (after_seal plan VarRing table)) (seal_of plan table) (seals-of_var plan seals (after_seal plan VarRing table) are)
 seals-of_var plan (DataRing ∷ seals) table are = absurd are
 seals-of_var plan (IndexRing ∷ seals) table are = absurd are
 seals-of_var plan (LogRing ∷ seals) table are = absurd are
@@ -99,25 +92,6 @@ left-var plan table t ((IndexRing, kind) ∷ front) h b = absurd h.0
 left-var plan table t ((LogRing, kind) ∷ front) h b = absurd h.0
 
 -- each raises the number of the ring by one at most
-abbrev IsNumberedTo : ℕ → Option model.Ring → Type 0
-IsNumberedTo n ring = IfSome ring (λ r. r.next + (cond r.torn 1 0) ≤ n)
-
-up_to : (m n : ℕ) (o : Option model.Ring) → m ≤ n → IsNumberedTo m o → IsNumberedTo n o
-up_to m n None le h = tt
-up_to m n (Some r) le h = omega (arith, le, h)
-
-begun_number : (n : ℕ) (o : Option model.Ring) → IsNumberedTo n o → IsNumberedTo (n + 1) (option_map model.begun o)
-begun_number n None h = tt
-begun_number n (Some r) h = omega (arith, h)
-
-sealed_number : (n : ℕ) (shape : model.Shape) (count : ℕ) (o : Option model.Ring) → IsNumberedTo n o → IsNumberedTo (n + 1) (option_map (model.sealed shape count) o)
-sealed_number n shape count None h = tt
-sealed_number n shape count (Some r) h = rw (sealed-torn shape count r, sealed-next shape count r) (omega (arith, h))
-
-erased_number : (n : ℕ) (o : Option model.Ring) → IsNumberedTo n o → IsNumberedTo (n + 1) (option_map model.erased o)
-erased_number n None h = tt
-erased_number n (Some r) h = omega (arith, h)
-
 number-done : (plan : Plan) (n : ℕ) (t : Table) (front : List (RingName × Kind)) → AreOfVar front → IsNumberedTo n t.var → IsNumberedTo (n + length front) (all_done (effect_within plan) front t).var
 number-done plan n t [] h k = up_to n (n + 0) t.var (omega arith) k
 number-done plan n t ((VarRing, kind) ∷ front) h k =
@@ -128,7 +102,7 @@ number-done plan n t ((VarRing, kind) ∷ front) h k =
     one Body = begun_number n t.var k
     one Mark = sealed_number n (shape_of plan VarRing) 1 t.var k
     one VoidMark = sealed_number n (shape_of plan VarRing) 0 t.var k
-    one Erase = erased_number n t.var k
+    one Erase = up_to n (n + 1) (option_map model.erased t.var) (omega arith) (erased-number n t.var k)
 number-done plan n t ((DataRing, kind) ∷ front) h k = absurd h.0
 number-done plan n t ((IndexRing, kind) ∷ front) h k = absurd h.0
 number-done plan n t ((LogRing, kind) ∷ front) h k = absurd h.0
@@ -145,18 +119,10 @@ IsSealing _ = ⊥
 abbrev AreSealing : List (RingName × Kind) → Type 0
 AreSealing operations = AllByRecursion IsSealing operations
 
-sealing_front : (front others : List (RingName × Kind)) → AreSealing (front ++ others) → AreSealing front
-sealing_front [] others h = tt
-sealing_front (o ∷ front) others h = (h.0, sealing_front front others h.1)
-
-sealing_append : (xs ys : List (RingName × Kind)) → AreSealing xs → AreSealing ys → AreSealing (xs ++ ys)
-sealing_append [] ys a b = b
-sealing_append (x ∷ xs) ys a b = (a.0, sealing_append xs ys a.1 b)
-
 seals_sealing : (plan : Plan) (seals : List RingName) (table : Table) → AreVar seals → AreSealing (seals_within plan seals table)
 seals_sealing plan [] table are = tt
 seals_sealing plan (VarRing ∷ seals) table are =
-    sealing_append (seal_within plan VarRing table) (seals_within plan seals (after_seal plan VarRing table)) (tt, (tt, erase (is_dirty VarRing (seal_buffer plan VarRing table)))) (seals_sealing plan seals (after_seal plan VarRing table) are)
+    each-append IsSealing (seal_within plan VarRing table) (seals_within plan seals (after_seal plan VarRing table)) (tt, (tt, erase (is_dirty VarRing (seal_buffer plan VarRing table)))) (seals_sealing plan seals (after_seal plan VarRing table) are)
   where
     erase : (b : Bool) → AreSealing (cond b ((VarRing, Erase) ∷ []) [])
     erase true = (tt, tt)
@@ -253,23 +219,20 @@ module _ (v : VarData) (f new : FlashState) (first : ℕ) (plan : Plan) (table :
     (index : (r : model.Ring) → table.index ≡ Some r → 0 < plan.index_blocks * plan.geometry.block) (left : next_in v + 3 * length seals ≤ 4294967292)
     (rose : Bool) (device : Device) (fault : FlashFault) (b : Breaks plan seals table rose device fault v new) where
   front : IsFront (effect_within plan) (seals_within plan seals table) table b.now.state
-  front = front-left (λ (o : RingName × Kind). o.1) (effect_within plan) rose (seals_within plan seals table) device table b.now b.did
+  front = performed-front plan rose (seals_within plan seals table) device table b.now b.did
 
   of_front : AreOfVar front.front
-  of_front = front-of_var front.front front.others (subst AreOfVar front.split (seals-of_var plan seals table are))
+  of_front = each-front (λ (operation : RingName × Kind). IsOfVar operation.0) front.front front.others (subst AreOfVar front.split (seals-of_var plan seals table are))
 
   beside : IsBesideVar table b.now.state
   beside = subst (IsBesideVar table) (sym front.state) (left-var plan table table front.front of_front (table.var, table.var_pages, table.buffered, refl))
 
   kept : HasVar plan b.now.state b.ring
   kept =
-      let come = sealing_front front.front front.others (subst AreSealing front.split (seals_sealing plan seals table are)) in
+      let come = each-front IsSealing front.front front.others (subst AreSealing front.split (seals_sealing plan seals table are)) in
       let k = done_keeps plan table ring front.front (var-shape v (first + plan.data_blocks + plan.index_blocks) plan planned) come has in
       let here = subst (λ (t : Table). HasVar plan t k.0) (sym front.state) k.1 in
-      subst (HasVar plan b.now.state) (same k.0 (sym here.is ∙ b.ring_is)) here
-    where
-      same : (r : model.Ring) → Some r ≡ Some b.ring → r ≡ b.ring
-      same r e = cc
+      subst (HasVar plan b.now.state) (same_Some k.0 b.ring (sym here.is ∙ b.ring_is)) here
 
   torn : ◌≡◌ {A = ℕ} (cond ring.torn 1 0) 0
   torn = ap {B = ℕ} (λ x. cond x 1 0) whole

@@ -4,14 +4,15 @@ use Rattle.std.proofs.Math.Path.{fun_ext}
 use Rattle.std.proofs.Math.Nat.{add-mul, div-lt_iff_lt-mul}
 use Rattle.std.specs.List.{slice_get}
 use Rattle.fl_flash.specs.Flash.{FlashState, page_at, pages, StaysWith}
-use Rattle.fl_model.specs.Facts.{is_some_ring}
 use Rattle.fl_model.specs.Layout.{ContentPage, content_body}
 use Rattle.fl_model.specs.Record.{Plan, has_var}
-use Rattle.fl_model.specs.Ring as model
 use Rattle.fl_model.specs.Ring.{Ring}
 use Rattle.fl_model.specs.Table.{Table, Entry, VarRing, shape_of, spent_from}
 use Rattle.fl_model.specs.Image.{IsRingImage, HoldsContent, HoldsPage}
+use Rattle.fl_model.proofs.SomeRing.{no-ring}
+use Rattle.fl_frame.proofs.CallsInTurn.{few-goes}
 use Rattle.fl_ring.specs.Ring.{Shape, OutsideStands, room}
+use Rattle.fl_ring.proofs.Exists.{lies_still}
 use Rattle.fl_parts.specs.Blobs.{IsStanding, ArePlanned, AreSamePlan, LieOn, AreEmpty, NumbersLeft, HasFew, Stand, IsPlanned, next_of, next_after, pages_for, most_pages}
 use Rattle.fl_parts.specs.Pages.{bytes_in, place_in}
 use Rattle.fl_parts.proofs.BlobTables.{IsBlobbed, HoldsVar, planned-var, var-pages}
@@ -58,13 +59,9 @@ planned-some var first plan h = planned-var var first plan h
 pub planned-none : (first : ℕ) (plan : Plan) → ArePlanned None first plan → has_var plan ≡ false
 planned-none first plan h = rw h refl
 
-no_ring : (o : Option model.Ring) → is_some_ring o ≡ false → o ≡ None
-no_ring None e = refl
-no_ring (Some ring) e = cc
-
 -- a table without variable data has no ring for them
 pub none-var : (first : ℕ) (plan : Plan) (table : Table) → ArePlanned None first plan → IsBlobbed plan table → table.var ≡ None
-none-var first plan table h facts = no_ring table.var (facts.has ∙ planned-none first plan h)
+none-var first plan table h facts = no-ring table.var (facts.has ∙ planned-none first plan h)
 
 -- they lie where they lay
 pub lies-goes : {Power : Type 0} (blobs : Option VarData) (f g : FlashState) → StaysWith Power f g → LieOn blobs f → LieOn blobs g
@@ -72,18 +69,9 @@ lies-goes None f g goes h = tt
 lies-goes (Some var) f g goes h = record {
   geometry = goes.geometry ∙ h.geometry;
   within = omega (arith, h.within, goes.blocks);
-  few = subst (λ k. k < 2 ^ 32) (sym same) h.few;
-  ring = λ ring is.
-      let r = h.ring ring is in
-      record {
-        page = ap (λ x. x.page) goes.geometry ∙ r.page;
-        block = ap (λ x. x.block) goes.geometry ∙ r.block;
-        within = omega (arith, r.within, goes.blocks);
-      };
+  few = few-goes f g goes h.few;
+  ring = λ ring is. lies_still ring f g (h.ring ring is) goes;
 }
-  where
-    same : pages g ≡ pages f
-    same = ap (λ k. k * g.geometry.block) goes.blocks ∙ ap (λ x. f.blocks * x.block) goes.geometry
 
 -- pages of a put and of its seal have numbers
 pub numbers-left : (blobs : Option VarData) → next_after blobs ≤ spent_from + 64 → NumbersLeft blobs

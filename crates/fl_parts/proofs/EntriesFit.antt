@@ -1,10 +1,9 @@
 -- What is told of a page fits the fields of a full entry, by the plan of its table.
-use Rattle.std.proofs.Common.{◌≡◌, ℕ, suc, ◌+◌, ◌-◌, ◌^◌, ◌<◌, ◌≤◌, Bool, true, false, ◌||◌, ◌==◌, cond, nat_lt, max, Option, Some, None, IfSome, IsTrue, List, [], ◌∷◌, length, map, take, drop, refl, ◌∙◌, ap, subst, arith}
+use Rattle.std.proofs.Common.{◌≡◌, ℕ, suc, ◌+◌, ◌-◌, ◌^◌, ◌<◌, ◌≤◌, Bool, true, false, ◌==◌, cond, max, Option, Some, None, IfSome, List, [], ◌∷◌, length, map, take, drop, refl, ◌∙◌, ap, subst, arith}
 use Rattle.std.specs.List.{AllByRecursion, slice_get, fold, sum}
 use Rattle.std.proofs.Math.Nat.{div-le_self}
-use Rattle.std.proofs.lemmas.Bool.{lt-ltb, false≢true}
+use Rattle.std.proofs.lemmas.Bool.{false≢true}
 use Rattle.std.proofs.lemmas.List.{length-take}
-use Rattle.fl_model.specs.Agrees.{is_told}
 use Rattle.fl_model.specs.Facts.{BlobFits, FitsPlan, is_some_ring}
 use Rattle.fl_model.specs.Image.{rows_at}
 use Rattle.fl_model.specs.Record.{Plan, has_var, key_limit, row_len, rows_per_page}
@@ -15,14 +14,6 @@ use Rattle.fl_model.proofs.Lists.{each-at, each-drop, each-take}
 use Rattle.fl_parts.specs.Blobs.{AreLed}
 use Rattle.fl_parts.proofs.Loose.{IsLoose}
 use Rattle.fl_parts.proofs.RowsFound.{rows-lose}
-
--- a page with rows is told of
-pub told-some : (plan : Plan) (rows : ℕ) → 0 < rows → IsTrue (is_told plan rows)
-told-some plan rows some = by_form plan.full_index
-  where
-    by_form : (full : Bool) → IsTrue (full || nat_lt 0 rows)
-    by_form true = refl
-    by_form false = lt-ltb 0 rows some
 
 pub first-within : (plan : Plan) (entries : List Entry) → AllByRecursion (FitsPlan plan) entries → first_key entries ≤ key_limit plan
 first-within plan [] h = omega arith

@@ -6,7 +6,8 @@ use Rattle.fl_frame.specs.Reads.{FewReads}
 use Rattle.fl_index.specs.Finding.{FindsEnd}
 use Rattle.fl_index.specs.Memory.{next_in, oldest_in, ring_shape}
 use Rattle.fl_index.specs.declared.index.BitmapIndex.{BitmapIndex}
-use Rattle.fl_index.proofs.MountCalls.{ring-few, four-each}
+use Rattle.fl_ring.proofs.NewestPages.{ring_few}
+use Rattle.fl_index.proofs.MountCalls.{four-each}
 use Rattle.fl_ring.specs.Mounting.{search_reads}
 use Rattle.fl_ring.specs.Place.{next_of, oldest_of}
 use Rattle.fl_ring.specs.Repairing.{Beside}
@@ -19,7 +20,7 @@ use Rattle.fl_parts.specs.IndexMount.{FindsBy, FindsBitmaps}
 -- the ring of an index that was found keeps no more pages than it has
 kept-within : (index now : BitmapIndex) (f g : FlashState) (end : Option ℕ) (full : Bool) → FindsEnd index f end now g → IsTrue f.media.tells → cond full (next_in now - oldest_in now) 0 ≤ index.place.blocks * index.geometry.block
 kept-within index now f g end full found told =
-    let few = ring-few f g (ring_shape index) found.ring (omega (arith, index.some_blocks)) found.numbers told in
+    let few = ring_few f g (ring_shape index) 0 found.ring (omega (arith, index.some_blocks)) found.numbers told in
     let next : next_in now ≡ next_of found.ring = ap (λ (o : Option Ring). unwrap_or (option_map (λ ring. next_of ring) o) 0) found.ring_is in
     let oldest : oldest_in now ≡ oldest_of found.ring = ap (λ (o : Option Ring). unwrap_or (option_map (λ ring. oldest_of ring) o) 0) found.ring_is in
     by_form full (omega (arith, few, next, oldest))

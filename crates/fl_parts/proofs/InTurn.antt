@@ -1,28 +1,23 @@
 -- Seals and mounts of rings, one after another, of which one stops the others.
-use Rattle.std.proofs.Common.{◌≡◌, ℕ, Bool, List, subst, [], ◌∷◌, ◌++◌, refl, sym, ◌∙◌, ap, append_assoc, map, ◌⊎◌, inl, inr, cond, nat_lt}
+use Rattle.std.proofs.Common.{◌≡◌, ℕ, Bool, List, subst, [], ◌∷◌, ◌++◌, refl, sym, ◌∙◌, ap, map, ◌⊎◌, inl, inr, cond, nat_lt}
 use Rattle.fl_flash.specs.Flash.{FlashState}
 use Rattle.fl_model.specs.Record.{Plan, Record}
-use Rattle.fl_model.specs.Table.{Table, RingName, after_seal, after_seals, LogRing, make_room_seals, fill_seals, join_seals, put_joined}
+use Rattle.fl_model.specs.Table.{Table, RingName, after_seals, LogRing, make_room_seals, fill_seals, join_seals, put_joined}
 use Rattle.fl_model.specs.Work.{Device, Kind, PartEnd, Whole, CutIn, FailedIn, PartProgress}
 use Rattle.fl_flash.specs.declared.flash.FlashFault.{FlashFault}
-use Rattle.fl_model.specs.Within.{seal_within, seals_within, effect_within, TablePerforms, TableGoesOn, TableMounts, TableMountEnd, TableMounted, TableStopped, TableUnread}
+use Rattle.fl_model.specs.Within.{seals_within, effect_within, TablePerforms, TableGoesOn, TableMounts, TableMountEnd, TableMounted, TableStopped, TableUnread}
 use Rattle.fl_model.proofs.Performs.{performs-front}
 use Rattle.std.proofs.lemmas.List.{map-append, append-nil}
 use Rattle.fl_flash.specs.declared.flash.FlashFault.TheVariants.{Media}
 use Rattle.fl_model.specs.Mount.{Turn, Of}
 use Rattle.fl_model.specs.Puts.{TablePuts, TablePutGoesOn}
+use Rattle.fl_model.proofs.Among.{within-append}
 use Rattle.fl_parts.specs.Failing.{Breaks, BySeals, FaultEnds, MountsBadly}
 
 -- the same seals
 pub breaks-as : (first : ℕ) (plan : Plan) (rings others : List RingName) (table : Table) (rose : Bool) (device : Device) (fault : FlashFault) (new : FlashState) → rings ≡ others →
     Breaks first plan (BySeals plan rings table rose device) fault new → Breaks first plan (BySeals plan others table rose device) fault new
 breaks-as first plan rings others table rose device fault new e h = subst (λ (rs : List RingName). Breaks first plan (BySeals plan rs table rose device) fault new) e h
-
-pub within-append : (plan : Plan) (rings others : List RingName) (table : Table) → seals_within plan (rings ++ others) table ≡ seals_within plan rings table ++ seals_within plan others (after_seals plan rings table)
-within-append plan [] others table = refl
-within-append plan (ring ∷ rings) others table =
-    ap (λ (ops : List (RingName × Kind)). seal_within plan ring table ++ ops) (within-append plan rings others (after_seal plan ring table))
-    ∙ sym (append_assoc (seal_within plan ring table) (seals_within plan rings (after_seal plan ring table)) (seals_within plan others (after_seals plan rings (after_seal plan ring table))))
 
 module _ (first : ℕ) (plan : Plan) (rings others : List RingName) (table : Table) (rose : Bool) (device : Device) where
   -- the first ones stopped
@@ -60,34 +55,24 @@ mounts-append plan rose (turn ∷ turns) others device table now how (inr p) k =
     by_end rest (CutIn before) m = absurd (no p.0 m)
     by_end rest (FailedIn before) m = absurd (no p.0 m)
 
--- turns of which one stopped the mount
-pub mounts-stop : (plan : Plan) (rose : Bool) (turns others : List Turn) (device : Device) (table : Table) (now : PartProgress Table) → TableMounts plan rose turns device table (TableStopped now) → TableMounts plan rose (turns ++ others) device table (TableStopped now)
-mounts-stop plan rose [] others device table now m = absurd (no m)
+-- turns of which one ended the mount
+mounts-ended : (plan : Plan) (rose : Bool) (turns others : List Turn) (device : Device) (table : Table) (how : TableMountEnd) → ((now : PartProgress Table) → how ≡ TableMounted now → ⊥) → TableMounts plan rose turns device table how →
+    TableMounts plan rose (turns ++ others) device table how
+mounts-ended plan rose [] others device table how other m = absurd (other _ m)
+mounts-ended plan rose (turn ∷ turns) others device table how other (inl u) = inl u
+mounts-ended plan rose (turn ∷ turns) others device table how other (inr p) = inr (p.0, p.1, by_end (λ m. mounts-ended plan rose turns others p.0.device p.0.state how other m) p.0.end p.2)
   where
-    no : TableStopped now ≡ TableMounted (record { end = Whole; device = device; state = table }) → ⊥
-    no e = cc
-mounts-stop plan rose (turn ∷ turns) others device table now (inl u) = inl u
-mounts-stop plan rose (turn ∷ turns) others device table now (inr p) = inr (p.0, p.1, by_end (λ m. mounts-stop plan rose turns others p.0.device p.0.state now m) p.0.end p.2)
-  where
-    by_end : (TableMounts plan rose turns p.0.device p.0.state (TableStopped now) → TableMounts plan rose (turns ++ others) p.0.device p.0.state (TableStopped now)) → (e : PartEnd Table) →
-        TableGoesOn e p.0 (TableStopped now) (TableMounts plan rose turns p.0.device p.0.state (TableStopped now)) → TableGoesOn e p.0 (TableStopped now) (TableMounts plan rose (turns ++ others) p.0.device p.0.state (TableStopped now))
+    by_end : (TableMounts plan rose turns p.0.device p.0.state how → TableMounts plan rose (turns ++ others) p.0.device p.0.state how) → (e : PartEnd Table) →
+        TableGoesOn e p.0 how (TableMounts plan rose turns p.0.device p.0.state how) → TableGoesOn e p.0 how (TableMounts plan rose (turns ++ others) p.0.device p.0.state how)
     by_end rest Whole m = rest m
     by_end rest (CutIn before) m = m
     by_end rest (FailedIn before) m = m
 
+pub mounts-stop : (plan : Plan) (rose : Bool) (turns others : List Turn) (device : Device) (table : Table) (now : PartProgress Table) → TableMounts plan rose turns device table (TableStopped now) → TableMounts plan rose (turns ++ others) device table (TableStopped now)
+mounts-stop plan rose turns others device table now m = mounts-ended plan rose turns others device table (TableStopped now) (λ end e. cc) m
+
 pub mounts-unread : (plan : Plan) (rose : Bool) (turns others : List Turn) (device : Device) (table : Table) (now : PartProgress Table) → TableMounts plan rose turns device table (TableUnread now) → TableMounts plan rose (turns ++ others) device table (TableUnread now)
-mounts-unread plan rose [] others device table now m = absurd (no m)
-  where
-    no : TableUnread now ≡ TableMounted (record { end = Whole; device = device; state = table }) → ⊥
-    no e = cc
-mounts-unread plan rose (turn ∷ turns) others device table now (inl u) = inl u
-mounts-unread plan rose (turn ∷ turns) others device table now (inr p) = inr (p.0, p.1, by_end (λ m. mounts-unread plan rose turns others p.0.device p.0.state now m) p.0.end p.2)
-  where
-    by_end : (TableMounts plan rose turns p.0.device p.0.state (TableUnread now) → TableMounts plan rose (turns ++ others) p.0.device p.0.state (TableUnread now)) → (e : PartEnd Table) →
-        TableGoesOn e p.0 (TableUnread now) (TableMounts plan rose turns p.0.device p.0.state (TableUnread now)) → TableGoesOn e p.0 (TableUnread now) (TableMounts plan rose (turns ++ others) p.0.device p.0.state (TableUnread now))
-    by_end rest Whole m = rest m
-    by_end rest (CutIn before) m = m
-    by_end rest (FailedIn before) m = m
+mounts-unread plan rose turns others device table now m = mounts-ended plan rose turns others device table (TableUnread now) (λ end e. cc) m
 
 -- the turns of these rings
 abbrev pub of_rings : List RingName → List Turn

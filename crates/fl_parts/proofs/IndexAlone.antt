@@ -1,5 +1,5 @@
 -- Operations of an index ring, and what they leave as it is: all else of their table.
-use Rattle.std.proofs.Common.{◌≡◌, ℕ, suc, ◌+◌, ◌*◌, ◌<◌, ◌≤◌, Bool, true, false, cond, Option, Some, None, IfSome, option_map, List, [], ◌∷◌, ◌++◌, length, refl, sym, ◌∙◌, ap, subst, arith, ◌⊎◌, inl, ◌&&◌, ◌==◌}
+use Rattle.std.proofs.Common.{◌≡◌, ℕ, suc, ◌+◌, ◌*◌, ◌<◌, ◌≤◌, Bool, true, false, cond, Option, Some, None, IfSome, option_map, List, [], ◌∷◌, length, refl, sym, ◌∙◌, ap, subst, arith, ◌⊎◌, inl, ◌&&◌, ◌==◌}
 use Rattle.std.proofs.Math.Path.{fun_ext}
 use Rattle.std.proofs.Math.Nat.{mod-lt, add-mul}
 use Rattle.std.specs.List.{AllByRecursion}
@@ -18,9 +18,8 @@ use Rattle.fl_model.specs.Ring.{oldest}
 use Rattle.fl_model.specs.Table.{Table, RingName, DataRing, IndexRing, VarRing, LogRing, shape_of, full_pages, is_dirty, seal_buffer, lose, spent_from, after_seals}
 use Rattle.fl_model.specs.Work.{Kind, Body, Mark, VoidMark, Erase}
 use Rattle.fl_model.specs.Within.{seal_within, effect_within, all_done}
-use Rattle.fl_model.proofs.Sealed.{sealed-next, sealed-torn}
 use Rattle.fl_ring.specs.Ring.{Shape, OutsideStands}
-use Rattle.fl_parts.proofs.Fronts.{IsNumberedTo, erased-number}
+use Rattle.fl_parts.proofs.Fronts.{IsNumberedTo, erased-number, up_to, begun_number, sealed_number}
 use Rattle.fl_parts.specs.Bitmaps.{ArePlanned, StandOutside, bitmap_seals}
 use Rattle.fl_parts.specs.Pages.{HoldsTable, bytes_in, place_in}
 use Rattle.fl_parts.proofs.BlobTables.{HoldsVar}
@@ -38,10 +37,6 @@ IsOfIndex LogRing = ⊥
 abbrev pub AreOfIndex : List (RingName × Kind) → Type 0
 AreOfIndex operations = AllByRecursion (λ operation. IsOfIndex operation.0) operations
 
-pub front_of : (front others : List (RingName × Kind)) → AreOfIndex (front ++ others) → AreOfIndex front
-front_of [] others h = tt
-front_of (o ∷ front) others h = (h.0, front_of front others h.1)
-
 -- they leave all else of the table
 abbrev pub with_index : Table → Option model.Ring → List IndexPage → List IndexEntry → Table
 with_index table index pages waiting = record table { index = index; index_pages = pages; waiting = waiting }
@@ -58,18 +53,6 @@ beside-done plan table t ((IndexRing, Erase) ∷ front) h b = beside-done plan t
 beside-done plan table t ((DataRing, kind) ∷ front) h b = absurd h.0
 beside-done plan table t ((VarRing, kind) ∷ front) h b = absurd h.0
 beside-done plan table t ((LogRing, kind) ∷ front) h b = absurd h.0
-
-up_to : (m n : ℕ) (o : Option model.Ring) → m ≤ n → IsNumberedTo m o → IsNumberedTo n o
-up_to m n None le h = tt
-up_to m n (Some r) le h = omega (arith, le, h)
-
-begun_number : (n : ℕ) (o : Option model.Ring) → IsNumberedTo n o → IsNumberedTo (n + 1) (option_map model.begun o)
-begun_number n None h = tt
-begun_number n (Some r) h = omega (arith, h)
-
-sealed_number : (n : ℕ) (shape : model.Shape) (count : ℕ) (o : Option model.Ring) → IsNumberedTo n o → IsNumberedTo (n + 1) (option_map (model.sealed shape count) o)
-sealed_number n shape count None h = tt
-sealed_number n shape count (Some r) h = rw (sealed-torn shape count r, sealed-next shape count r) (omega (arith, h))
 
 pub number-done : (plan : Plan) (n : ℕ) (t : Table) (front : List (RingName × Kind)) → AreOfIndex front → IsNumberedTo n t.index → IsNumberedTo (n + length front) (all_done (effect_within plan) front t).index
 number-done plan n t [] h k = up_to n (n + 0) t.index (omega arith) k

@@ -1,5 +1,5 @@
 -- What the mount of an index ring leaves of its table, as a part of the table's mount.
-use Rattle.std.proofs.Common.{◌≡◌, ℕ, ◌+◌, ◌*◌, ◌<◌, ◌≤◌, Bool, true, false, cond, Option, Some, None, option_map, unwrap_or, IfSome, nat_lt, append_assoc, List, [], ◌∷◌, ◌++◌, length, refl, sym, ◌∙◌, ap, subst, arith, ◌⊎◌, inl, inr, map, drop}
+use Rattle.std.proofs.Common.{◌≡◌, ℕ, ◌+◌, ◌*◌, ◌<◌, ◌≤◌, Bool, true, false, cond, Option, Some, None, option_map, unwrap_or, IfSome, nat_lt, List, [], ◌∷◌, ◌++◌, length, refl, sym, ◌∙◌, ap, subst, arith, ◌⊎◌, inl, inr, map, drop}
 use Rattle.fl_model.specs.Index.{IndexPage}
 use Rattle.std.specs.List.{list_any}
 use Rattle.fl_flash.specs.Flash.{FlashState, page_at}
@@ -15,13 +15,14 @@ use Rattle.fl_model.specs.Mount.{renumber, renumbered, rings_of, index_end, leas
 use Rattle.fl_model.specs.Record.{Plan, has_index, entries_per_page}
 use Rattle.fl_model.specs.Ring as model
 use Rattle.fl_model.specs.Ring.{oldest}
-use Rattle.fl_model.specs.Table.{Table, RingName, DataRing, IndexRing, VarRing, shape_of, full_pages, is_torn, is_dirty, seal_page, spent_from, LogRing}
-use Rattle.fl_model.specs.Work.{Kind, Body, Mark, VoidMark, Erase, Device, PartEnd, Whole, CutIn, FailedIn, PartProgress}
-use Rattle.fl_model.specs.Within.{repair_within, effect_within, all_done, TablePerforms, TableUnreads, TableGoesOn, TableMounts, TableStopped, TableUnread}
+use Rattle.fl_model.specs.Table.{Table, RingName, DataRing, IndexRing, VarRing, shape_of, full_pages, is_torn, spent_from}
+use Rattle.fl_model.specs.Work.{VoidMark, Erase, Device, PartEnd, Whole, CutIn, FailedIn, PartProgress}
+use Rattle.fl_model.specs.Within.{repair_within, effect_within, TablePerforms, TableUnreads, TableGoesOn, TableMounts, TableStopped, TableUnread}
+use Rattle.fl_model.proofs.Fronts.{IsFront, performed-front, unread-front, repairs-keep}
 use Rattle.fl_parts.specs.Failing.{FaultEnds, MountsBadly, var_rings}
 use Rattle.fl_parts.specs.Mountable.{BlobsBefore, IsMountable}
 use Rattle.fl_parts.specs.Pages.{RestsToMount, bytes_in}
-use Rattle.fl_parts.proofs.Fronts.{IsNumberedTo, IsFront, front-left, erased-number}
+use Rattle.fl_parts.proofs.Fronts.{IsNumberedTo, erased-number}
 use Rattle.fl_parts.proofs.InTurn.{of_rings}
 use Rattle.fl_parts.proofs.IndexAlone.{IsBeside, indexed-of, beside-facts, holds-beside, holds-indexed}
 use Rattle.fl_parts.proofs.Loose.{IsListed, IsLoose, listed-of, loose-paged, loose-with_index, paged-loose}
@@ -29,90 +30,12 @@ use Rattle.fl_parts.proofs.Plain.{IsPlainTable, table-facts, table-parts, least-
 use Rattle.fl_parts.proofs.VarRepairs.{voided_number}
 use Rattle.fl_parts.proofs.Repaired.{IsIdle, idle-lost, lost-idle}
 
--- the repairs of an index ring that are left
-abbrev pub AreErases : List (RingName × Kind) → Type 0
-AreErases [] = Unit {0}
-AreErases ((IndexRing, Erase) ∷ operations) = AreErases operations
-AreErases _ = ⊥
-
-abbrev pub AreRepairs : List (RingName × Kind) → Table → Type 0
-AreRepairs [] table = Unit {0}
-AreRepairs ((IndexRing, VoidMark) ∷ operations) table = (is_torn IndexRing table ≡ true) × AreErases operations
-AreRepairs ((IndexRing, Erase) ∷ operations) table = AreErases operations
-AreRepairs _ table = ⊥
-
-erases_front : (front others : List (RingName × Kind)) → AreErases (front ++ others) → AreErases front
-erases_front [] others h = tt
-erases_front ((IndexRing, Erase) ∷ front) others h = erases_front front others h
-erases_front ((IndexRing, Body) ∷ front) others h = absurd h
-erases_front ((IndexRing, Mark) ∷ front) others h = absurd h
-erases_front ((IndexRing, VoidMark) ∷ front) others h = absurd h
-erases_front ((DataRing, kind) ∷ front) others h = absurd h
-erases_front ((VarRing, kind) ∷ front) others h = absurd h
-erases_front ((LogRing, kind) ∷ front) others h = absurd h
-
-repairs_front : (front others : List (RingName × Kind)) (table : Table) → AreRepairs (front ++ others) table → AreRepairs front table
-repairs_front [] others table h = tt
-repairs_front ((IndexRing, VoidMark) ∷ front) others table h = (h.0, erases_front front others h.1)
-repairs_front ((IndexRing, Erase) ∷ front) others table h = erases_front front others h
-repairs_front ((IndexRing, Body) ∷ front) others table h = absurd h
-repairs_front ((IndexRing, Mark) ∷ front) others table h = absurd h
-repairs_front ((DataRing, kind) ∷ front) others table h = absurd h
-repairs_front ((VarRing, kind) ∷ front) others table h = absurd h
-repairs_front ((LogRing, kind) ∷ front) others table h = absurd h
-
-are_repairs : (plan : Plan) (table : Table) → AreRepairs (repair_within plan IndexRing table) table
-are_repairs plan table = by_torn (is_torn IndexRing table) refl (is_dirty IndexRing (cond (is_torn IndexRing table) (seal_page plan IndexRing 0 table) table))
-  where
-    by_torn : (t : Bool) → is_torn IndexRing table ≡ t → (d : Bool) → AreRepairs ((cond t ((IndexRing, VoidMark) ∷ []) []) ++ (cond d ((IndexRing, Erase) ∷ []) [])) table
-    by_torn true e true = (e, tt)
-    by_torn true e false = (e, tt)
-    by_torn false e true = tt
-    by_torn false e false = tt
-
--- what they leave of a table
+-- what the repairs of an index ring leave of a table
 pub record IsLeft (n : ℕ) (plan : Plan) (table new : Table) : Type 0 where
   pub beside : IsBeside table new
   pub number : IsNumberedTo n new.index
   pub end : index_end plan new ≤ index_end plan table
   pub waiting : new.waiting ≡ table.waiting
-
-erases_done : (n : ℕ) (plan : Plan) (table t : Table) (front : List (RingName × Kind)) → AreErases front → IsLeft n plan table t → IsLeft n plan table (all_done (effect_within plan) front t)
-erases_done n plan table t [] h k = k
-erases_done n plan table t ((IndexRing, Erase) ∷ front) h k =
-    erases_done n plan table (effect_within plan (IndexRing, Erase) t) front h (record {
-      beside = (_, _, _, ap (effect_within plan (IndexRing, Erase)) k.beside.3);
-      number = erased-number n t.index k.number;
-      end = k.end;
-      waiting = k.waiting;
-    })
-erases_done n plan table t ((IndexRing, Body) ∷ front) h k = absurd h
-erases_done n plan table t ((IndexRing, Mark) ∷ front) h k = absurd h
-erases_done n plan table t ((IndexRing, VoidMark) ∷ front) h k = absurd h
-erases_done n plan table t ((DataRing, kind) ∷ front) h k = absurd h
-erases_done n plan table t ((VarRing, kind) ∷ front) h k = absurd h
-erases_done n plan table t ((LogRing, kind) ∷ front) h k = absurd h
-
-repairs_done : (n : ℕ) (plan : Plan) (table t : Table) (front : List (RingName × Kind)) → AreRepairs front t → IsLeft n plan table t → IsLeft n plan table (all_done (effect_within plan) front t)
-repairs_done n plan table t [] h k = k
-repairs_done n plan table t ((IndexRing, VoidMark) ∷ front) h k =
-    erases_done n plan table (effect_within plan (IndexRing, VoidMark) t) front h.1 (record {
-      beside = (_, _, _, ap (effect_within plan (IndexRing, VoidMark)) k.beside.3);
-      number = voided_number n (shape_of plan IndexRing) t.index h.0 k.number;
-      end =
-          let gone = full_pages (unwrap_or (option_map (model.given_up (shape_of plan IndexRing) 0) t.index) []) in
-          let less : end_after (entries_per_page plan) (map (λ (page : IndexPage). page.first) (drop gone t.index_pages)) ≤ end_after (entries_per_page plan) (map (λ (page : IndexPage). page.first) t.index_pages) =
-          subst (λ (fs : List ℕ). end_after (entries_per_page plan) fs ≤ end_after (entries_per_page plan) (map (λ (page : IndexPage). page.first) t.index_pages)) (sym (firsts-drop gone t.index_pages))
-          (end-drop (entries_per_page plan) gone (map (λ (page : IndexPage). page.first) t.index_pages)) in
-          omega (arith, less, k.end);
-      waiting = k.waiting;
-    })
-repairs_done n plan table t ((IndexRing, Erase) ∷ front) h k = erases_done n plan table t ((IndexRing, Erase) ∷ front) h k
-repairs_done n plan table t ((IndexRing, Body) ∷ front) h k = absurd h
-repairs_done n plan table t ((IndexRing, Mark) ∷ front) h k = absurd h
-repairs_done n plan table t ((DataRing, kind) ∷ front) h k = absurd h
-repairs_done n plan table t ((VarRing, kind) ∷ front) h k = absurd h
-repairs_done n plan table t ((LogRing, kind) ∷ front) h k = absurd h
 
 -- renumbered from 0 on, a ring's number is the same or less
 lower_number : (n : ℕ) (shape : model.Shape) (o : Option model.Ring) → 0 < shape.blocks * shape.pages → IfSome o (model.IsRing shape) → IsNumberedTo n o → IsNumberedTo n (option_map (renumbered shape 0) o)
@@ -137,14 +60,24 @@ module _ (old new : FlashState) (first : ℕ) (plan : Plan) (table : Table) (ros
   module _ (left : Table) (ring : model.Ring) (f : IsFront (effect_within plan) (repair_within plan IndexRing (renumber plan IndexRing table)) (renumber plan IndexRing table) left) (known : HasIndex plan left ring)
       (image : standing.HoldsIndex (page_at new) (first + plan.data_blocks) plan left ring) where
     is-left : (n : ℕ) → IsNumberedTo n table.index → IsLeft n plan table left
-    is-left n number =
-        let come = repairs_front f.front f.others (renumber plan IndexRing table) (subst (λ (ops : List (RingName × Kind)). AreRepairs ops (renumber plan IndexRing table)) f.split (are_repairs plan (renumber plan IndexRing table))) in
-        subst (IsLeft n plan table) (sym f.state) (repairs_done n plan table (renumber plan IndexRing table) f.front come (record {
-          beside = (_, _, _, refl);
-          number = lower_number n (shape_of plan IndexRing) table.index some loose.index.ring number;
-          end = omega arith;
-          waiting = refl;
-        }))
+    is-left n number = repairs-keep (IsLeft n plan table) plan IndexRing (renumber plan IndexRing table) left f voids erases
+        (record { beside = (_, _, _, refl); number = lower_number n (shape_of plan IndexRing) table.index some loose.index.ring number; end = omega arith; waiting = refl })
+      where
+        voids : is_torn IndexRing (renumber plan IndexRing table) ≡ true → IsLeft n plan table (renumber plan IndexRing table) → IsLeft n plan table (effect_within plan (IndexRing, VoidMark) (renumber plan IndexRing table))
+        voids e k = record {
+          beside = (_, _, _, ap (effect_within plan (IndexRing, VoidMark)) k.beside.3);
+          number = voided_number n (shape_of plan IndexRing) (renumber plan IndexRing table).index e k.number;
+          end =
+              let gone = full_pages (unwrap_or (option_map (model.given_up (shape_of plan IndexRing) 0) (renumber plan IndexRing table).index) []) in
+              let less : end_after (entries_per_page plan) (map (λ (page : IndexPage). page.first) (drop gone (renumber plan IndexRing table).index_pages)) ≤ end_after (entries_per_page plan) (map (λ (page : IndexPage). page.first) (renumber plan IndexRing table).index_pages) =
+              subst (λ (fs : List ℕ). end_after (entries_per_page plan) fs ≤ end_after (entries_per_page plan) (map (λ (page : IndexPage). page.first) (renumber plan IndexRing table).index_pages)) (sym (firsts-drop gone (renumber plan IndexRing table).index_pages))
+              (end-drop (entries_per_page plan) gone (map (λ (page : IndexPage). page.first) (renumber plan IndexRing table).index_pages)) in
+              omega (arith, less, k.end);
+          waiting = k.waiting;
+        }
+
+        erases : (t : Table) → IsLeft n plan table t → IsLeft n plan table (effect_within plan (IndexRing, Erase) t)
+        erases t k = record { beside = (_, _, _, ap (effect_within plan (IndexRing, Erase)) k.beside.3); number = erased-number n t.index k.number; end = k.end; waiting = k.waiting }
 
     is : IsLeft 4294967295 plan table left
     is = is-left 4294967295 loose.index.number
@@ -220,18 +153,16 @@ module _ (old new : FlashState) (first : ℕ) (plan : Plan) (table : Table) (ros
       front : (TablePerforms plan rose (repair_within plan IndexRing (renumber plan IndexRing table)) device (renumber plan IndexRing table) h.now × outcomes.FaultEnds h.now.end fault new)
           ⊎ (TableUnreads plan rose (repair_within plan IndexRing (renumber plan IndexRing table)) device (renumber plan IndexRing table) h.now × (fault ≡ Media)) →
           IsFront (effect_within plan) (repair_within plan IndexRing (renumber plan IndexRing table)) (renumber plan IndexRing table) h.now.state
-      front (inl p) = front-left (λ (o : RingName × Kind). o.1) (effect_within plan) rose (repair_within plan IndexRing (renumber plan IndexRing table)) device (renumber plan IndexRing table) h.now p.0
-      front (inr u) =
-          let g = front-left (λ (o : RingName × Kind). o.1) (effect_within plan) rose u.0.front device (renumber plan IndexRing table) h.now u.0.did in
-          record { front = g.front; others = g.others ++ u.0.others; split = u.0.split ∙ (ap (λ (ops : List (RingName × Kind)). ops ++ u.0.others) g.split ∙ append_assoc g.front g.others u.0.others); state = g.state }
+      front (inl p) = performed-front plan rose (repair_within plan IndexRing (renumber plan IndexRing table)) device (renumber plan IndexRing table) h.now p.0
+      front (inr u) = unread-front plan rose (repair_within plan IndexRing (renumber plan IndexRing table)) device (renumber plan IndexRing table) h.now u.0
 
   -- it ended well, and then the data ring is mounted
   pub index-mounts : (Remembers : BitmapIndex → Plan → Table → model.Ring → Type 0) (end : Option ℕ) (now : BitmapIndex) (h : outcomes.EndsWell Remembers (first + plan.data_blocks) plan table rose device end now new) → RestsToMount new first plan h.now.state
   index-mounts Remembers end now h =
-      left-rests h.now.state h.stands.ring (front-left (λ (o : RingName × Kind). o.1) (effect_within plan) rose (repair_within plan IndexRing (renumber plan IndexRing table)) device (renumber plan IndexRing table) h.now h.did)
+      left-rests h.now.state h.stands.ring (performed-front plan rose (repair_within plan IndexRing (renumber plan IndexRing table)) device (renumber plan IndexRing table) h.now h.did)
       h.stands.facts h.stands.pages
 
   pub index-settles : (Remembers : BitmapIndex → Plan → Table → model.Ring → Type 0) (end : Option ℕ) (now : BitmapIndex) (h : outcomes.EndsWell Remembers (first + plan.data_blocks) plan table rose device end now new) → IsSettled plan table → IsSettled plan h.now.state
   index-settles Remembers end now h =
-      left-settled h.now.state h.stands.ring (front-left (λ (o : RingName × Kind). o.1) (effect_within plan) rose (repair_within plan IndexRing (renumber plan IndexRing table)) device (renumber plan IndexRing table) h.now h.did)
+      left-settled h.now.state h.stands.ring (performed-front plan rose (repair_within plan IndexRing (renumber plan IndexRing table)) device (renumber plan IndexRing table) h.now h.did)
       h.stands.facts h.stands.pages

@@ -1,11 +1,11 @@
 -- The index of a table, where it has one.
-use Rattle.std.proofs.Common.{◌≡◌, ℕ, ◌+◌, ◌-◌, ◌*◌, ◌%◌, ◌^◌, ◌<◌, ◌≤◌, Bool, true, false, cond, nat_le, nat_lt, ◌==◌, is_some, option_map, unwrap_or, Option, Some, None, IfSome, List, [], ◌∷◌, ◌++◌, length, refl, sym, ◌∙◌, ap, subst, arith, IsTrue, length-append}
+use Rattle.std.proofs.Common.{◌≡◌, ℕ, ◌+◌, ◌-◌, ◌%◌, ◌^◌, ◌<◌, ◌≤◌, Bool, true, false, cond, nat_le, nat_lt, ◌==◌, is_some, option_map, unwrap_or, Option, Some, None, IfSome, List, [], ◌∷◌, ◌++◌, length, refl, sym, ◌∙◌, ap, subst, arith, IsTrue, length-append}
 use Rattle.std.proofs.lemmas.Bool.{lt-ltb, ne_eqb, false≢true}
 use Rattle.std.specs.Prelude.{slice_index_or, vec_len}
 use Rattle.std.specs.Option.{ForSome}
 use Rattle.std.proofs.lemmas.Option.{none-some}
 use Rattle.fl_base.specs.declared.types.RingPlace.{RingPlace}
-use Rattle.fl_flash.specs.Flash.{FlashState, Goes, page_at, pages, StaysWith}
+use Rattle.fl_flash.specs.Flash.{FlashState, page_at, pages, StaysWith}
 use Rattle.fl_index.specs.declared.index.BitmapIndex.{BitmapIndex}
 use Rattle.fl_index.specs.declared.page.Full.{Full}
 use Rattle.fl_index.specs.Memory as memory
@@ -19,9 +19,11 @@ use Rattle.fl_model.specs.Record.{Plan, has_index, entries_per_page}
 use Rattle.fl_model.specs.Ring as model
 use Rattle.fl_model.specs.Table.{Table, DataRing, IndexRing, shape_of, pending_entries, after_seal, spent_from}
 use Rattle.fl_model.proofs.Sealed.{sealed-next}
-use Rattle.fl_model.specs.Facts.{is_some_ring}
+use Rattle.fl_model.proofs.SomeRing.{no-ring}
+use Rattle.fl_frame.proofs.CallsInTurn.{few-goes}
 use Rattle.fl_ring.specs.Place.{next_of, oldest_of}
 use Rattle.fl_ring.specs.declared.ring.Ring.{Ring}
+use Rattle.fl_ring.proofs.Exists.{lies_still}
 use Rattle.fl_parts.specs.Bitmaps as numbers
 use Rattle.fl_parts.specs.Bitmaps.{AreStillFound, StaysFound, ArePlanned, AreSamePlan, AreSameRing, AreRunning, AreBroken, EndAt, FirstsGoOn, RingGoesOn, RoomMade, LieOn, Stand, HaveRoom, NumberLeft, AreNoted}
 use Rattle.fl_parts.specs.Pages.{bytes_in}
@@ -56,6 +58,12 @@ plan-then (Some x) None c h k = absurd h
 plan-then (Some x) (Some y) None h k = absurd k
 plan-then (Some x) (Some y) (Some z) h k = record { geometry = k.geometry ∙ h.geometry; place = k.place ∙ h.place; bits = k.bits ∙ h.bits; full = k.full ∙ h.full }
 
+pub same-index : (a b : Option BitmapIndex) → AreSamePlan a b → is_some b ≡ is_some a
+same-index None None h = refl
+same-index None (Some y) h = absurd h
+same-index (Some x) None h = absurd h
+same-index (Some x) (Some y) h = refl
+
 pub ring-same : (bitmaps : Option BitmapIndex) → AreSameRing bitmaps bitmaps
 ring-same None = tt
 ring-same (Some index) = record { ring = refl; firsts = refl }
@@ -80,24 +88,9 @@ lies-goes None f g goes h = tt
 lies-goes (Some index) f g goes h = record {
   geometry = goes.geometry ∙ h.geometry;
   within = omega (arith, h.within, goes.blocks);
-  few = subst (λ k. k < 2 ^ 32) (sym same) h.few;
-  ring = λ ring is.
-      let r = h.ring ring is in
-      record {
-        page = ap (λ x. x.page) goes.geometry ∙ r.page;
-        block = ap (λ x. x.block) goes.geometry ∙ r.block;
-        within = omega (arith, r.within, goes.blocks);
-      };
+  few = few-goes f g goes h.few;
+  ring = λ ring is. lies_still ring f g (h.ring ring is) goes;
 }
-  where
-    same : pages g ≡ pages f
-    same = ap (λ k. k * g.geometry.block) goes.blocks ∙ ap (λ x. f.blocks * x.block) goes.geometry
-
-pub few-goes : (f g : FlashState) → Goes f g → pages f < 2 ^ 32 → pages g < 2 ^ 32
-few-goes f g goes h = subst (λ k. k < 2 ^ 32) (sym same) h
-  where
-    same : pages g ≡ pages f
-    same = ap (λ k. k * g.geometry.block) goes.blocks ∙ ap (λ x. f.blocks * x.block) goes.geometry
 
 -- what stays where the ring does
 pub still-lies : (old new : Option BitmapIndex) (f : FlashState) → AreSamePlan old new → AreSameRing old new → LieOn old f → LieOn new f
@@ -266,20 +259,16 @@ room-left (Some index) f first plan table h s room t = omega (arith, room index 
 pub index-next : (index : BitmapIndex) (f : FlashState) (first : ℕ) (plan : Plan) (table : Table) (s : Stands index f first plan table) → memory.next_in index ≡ s.in_ring.ring.next
 index-next index f first plan table s = ap (λ (o : Option Ring). unwrap_or (option_map (λ ring. next_of ring) o) 0) s.in_ring.memory_is ∙ s.in_ring.next
 
-no_index : (o : Option model.Ring) → is_some_ring o ≡ false → o ≡ None
-no_index None e = refl
-no_index (Some ring) e = cc
-
 pub index-number : (bitmaps : Option BitmapIndex) (f : FlashState) (first : ℕ) (plan : Plan) (table : Table) (n : ℕ) → ArePlanned bitmaps first plan → IsIndexed plan table → Stand bitmaps f first plan table → numbers.next_of bitmaps ≤ n →
     IfSome table.index (λ ring. ring.next ≤ n)
-index-number None f first plan table n planned facts s le = rw (no_index table.index (facts.has ∙ planned-none first plan planned)) tt
+index-number None f first plan table n planned facts s le = rw (no-ring table.index (facts.has ∙ planned-none first plan planned)) tt
 index-number (Some index) f first plan table n planned facts s le =
     subst (λ (o : Option model.Ring). IfSome o (λ ring. ring.next ≤ n)) (sym s.in_ring.facts.ring_is) (omega (arith, index-next index f first plan table s, le))
 
 -- no number is left just where the table's index has none
 pub index-spent : (bitmaps : Option BitmapIndex) (f : FlashState) (first : ℕ) (plan : Plan) (table : Table) → ArePlanned bitmaps first plan → IsIndexed plan table → Stand bitmaps f first plan table →
     nat_le spent_from (numbers.next_of bitmaps) ≡ unwrap_or (option_map (λ ring. nat_le spent_from ring.next) table.index) false
-index-spent None f first plan table planned facts s = rw (no_index table.index (facts.has ∙ planned-none first plan planned)) refl
+index-spent None f first plan table planned facts s = rw (no-ring table.index (facts.has ∙ planned-none first plan planned)) refl
 index-spent (Some index) f first plan table planned facts s =
     ap (nat_le spent_from) (index-next index f first plan table s) ∙ ap (λ (o : Option model.Ring). unwrap_or (option_map (λ ring. nat_le spent_from ring.next) o) false) (sym s.in_ring.facts.ring_is)
 

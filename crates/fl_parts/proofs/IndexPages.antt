@@ -1,7 +1,7 @@
 -- A kept index page is read.
 use Rattle.std.proofs.Common.{◌≡◌, ℕ, zero, suc, ◌+◌, ◌-◌, ◌<◌, ◌≤◌, ◌⊎◌, inl, inr, Bool, true, false, cond, ◌&&◌, nat_le, nat_lt, max, min, Option, Some, None, List, map, refl, sym, ◌∙◌, ap, subst, arith}
 use Rattle.std.specs.Prelude.{◌^◌, IfSome, option_map, unwrap_or}
-use Rattle.std.proofs.lemmas.Bool.{cases_lt, eqb-true, eq-eqb, leb-true, ltb-true, le-leb, lt-ltb, and_from, and_parts}
+use Rattle.std.proofs.lemmas.Bool.{cases_lt, eqb-true, eq-eqb, leb-true, ltb-true, le-leb, lt-ltb, and_from, and_parts, and_left, and_right}
 use Rattle.std.proofs.lemmas.Option.{none-some}
 use Rattle.fl_find.specs.Index.{IndexOf}
 use Rattle.fl_find.specs.declared.index.KeyIndex.{KeyIndex}
@@ -32,7 +32,7 @@ use Rattle.fl_parts.specs.declared.mount_fault.MountFault.{MountFault}
 use Rattle.fl_parts.specs.declared.mount_fault.MountFault.TheVariants.{BadPage, BadEntry}
 use Rattle.fl_parts.specs.declared.known.Known.{Known}
 use Rattle.fl_parts.specs.declared.known.Listed.{Listed}
-use Rattle.fl_parts.proofs.PageChecks.{left-index}
+use Rattle.fl_parts.proofs.PageChecks.{left-index, count-fine, counts-none}
 use Rattle.fl_parts.proofs.ListingPage.{entry-in}
 use Rattle.fl_parts.proofs.WaitingPageComes.{knows-all, knows-aside}
 use Rattle.fl_parts.proofs.Steps.{index-all, index-aside, index-refused, index-waits}
@@ -223,32 +223,17 @@ module _ (t : Come) (layout : RowLayout) (most : ℕ) (bitmaps now : BitmapIndex
     -- no entry of a kept data page tells too many rows
     pub counts-fine : (low high : ℕ) → low ≤ max first t.oldest → min (first + t.per_page) (t.oldest + t.pages) ≤ high → t.oldest + t.pages < 2 ^ 32 →
         ((number : ℕ) → low ≤ number → number < high → IfSome (loaded_full now number) (λ full. full.count ≤ t.most)) → index_check t k ≡ None
-    counts-fine low high from to few fine = rw (good-committed, fits) (all 0 t.per_page (omega arith))
+    counts-fine low high from to few fine = rw (good-committed, fits) (counts-none t k one 0 t.per_page (omega arith))
       where
         of_some : (o : Option code.Full) (full : Full) → option_map full_view o ≡ Some full → IfSome o (λ full. full.count ≤ t.most) → full.count ≤ t.most
         of_some None full e le = absurd (none-some full e)
         of_some (Some x) full e le = let same : full_view x ≡ full = cc in omega (arith, le, ap (λ (f : Full). f.count) same)
 
         one : (j : ℕ) → j < t.per_page → count_fault t k j ≡ None
-        one j less = by_test ((nat_le t.oldest (page_first (index_page t k) + j) && nat_lt (page_first (index_page t k) + j) (t.oldest + t.pages)) && nat_lt t.most (told_at t (page_first (index_page t k) + j) k).count) refl
-          where
-            by_test : (b : Bool) → ((nat_le t.oldest (page_first (index_page t k) + j) && nat_lt (page_first (index_page t k) + j) (t.oldest + t.pages)) && nat_lt t.most (told_at t (page_first (index_page t k) + j) k).count) ≡ b →
-                cond b (Some (BadEntry (page_first (index_page t k) + j) (told_at t (page_first (index_page t k) + j) k).count t.most)) None ≡ None
-            by_test false e = refl
-            by_test true e =
-                let a = and_parts _ _ e in
-                let b = and_parts _ _ a.0 in
-                let number = page_first (index_page t k) + j in
-                let low' = leb-true t.oldest (page_first (index_page t k) + j) b.0 in
-                let high' = ltb-true (page_first (index_page t k) + j) (t.oldest + t.pages) b.1 in
-                let over = ltb-true t.most (told_at t (page_first (index_page t k) + j) k).count a.1 in
-                let told_is = listed-told (page_first (index_page t k) + j) (omega (arith, begins)) (omega (arith, begins, less)) (omega (arith, high', few)) in
-                let le = of_some (loaded_full now (page_first (index_page t k) + j)) (told_at t (page_first (index_page t k) + j) k) told_is (fine (page_first (index_page t k) + j) (omega (arith, begins, low', from)) (omega (arith, begins, less, high', to))) in
-                absurd (omega (arith, over, le))
-
-        all : (a q : ℕ) → a + q ≤ t.per_page → first_some (map (count_fault t k) (numbers_from a q)) ≡ None
-        all a zero le = refl
-        all a (suc q) le = ap (λ (o : Option MountFault). first_of o (first_some (map (count_fault t k) (numbers_from (a + 1) q)))) (one a (omega (arith, le))) ∙ all (a + 1) q (omega (arith, le))
+        one j less = count-fine t k j (λ low' high' over.
+            let told_is = listed-told (page_first (index_page t k) + j) (omega (arith, begins)) (omega (arith, begins, less)) (omega (arith, high', few)) in
+            let le = of_some (loaded_full now (page_first (index_page t k) + j)) (told_at t (page_first (index_page t k) + j) k) told_is (fine (page_first (index_page t k) + j) (omega (arith, begins, low', from)) (omega (arith, begins, less, high', to))) in
+            omega (arith, over, le))
 
     -- so what is loaded is what the entries tell of the data pages between the end before it and its own
     pub good-loaded : (number : ℕ) → k < t.index_pages → end_before t k ≤ number → number < first + t.per_page → number < 2 ^ 32 - 1 → entry t number ≡ option_map full_view (loaded_full now number)
@@ -259,13 +244,9 @@ module _ (t : Come) (layout : RowLayout) (most : ℕ) (bitmaps now : BitmapIndex
 
         by_order : (number < first) ⊎ (first ≤ number) → entry t number ≡ option_map full_view (loaded_full now number)
         by_order (inl before) =
-            let none : lists t number k ≡ false = by_low (is_good t k) (nat_le (page_first (index_page t k)) number) (nat_lt number (page_first (index_page t k) + t.per_page)) (not_le (nat_le (page_first (index_page t k)) number) refl) in
+            let none : lists t number k ≡ false = and_left _ (nat_lt number (page_first (index_page t k) + t.per_page)) (and_right (is_good t k) (nat_le (page_first (index_page t k)) number) (not_le (nat_le (page_first (index_page t k)) number) refl)) in
             here ∙ (ap (λ b. cond b (Some (told_at t number k)) None) none ∙ sym (ap (λ b. option_map full_view (cond b (found_waiting now (number - first_waiting now)).full None)) (not_waiting (is_waiting now number) refl)))
           where
-            by_low : (a b c : Bool) → b ≡ false → ((a && b) && c) ≡ false
-            by_low true b c e = ap (λ x. x && c) e
-            by_low false b c e = refl
-
             not_le : (b : Bool) → nat_le (page_first (index_page t k)) number ≡ b → b ≡ false
             not_le true e = let le = leb-true (page_first (index_page t k)) number e in absurd (omega (arith, le, before, begins))
             not_le false e = refl
@@ -297,19 +278,10 @@ module _ (t : Come) (layout : RowLayout) (most : ℕ) (bitmaps now : BitmapIndex
             ∙ (ap (λ b. cond b (Some (BadEntry number (told_at t number k).count t.most)) None) kept ∙ ap (λ c. Some (BadEntry number c t.most)) count_is)
 
         one : (j : ℕ) → page_first (index_page t k) + j < number → count_fault t k j ≡ None
-        one j less = by_test ((nat_le t.oldest (page_first (index_page t k) + j) && nat_lt (page_first (index_page t k) + j) (t.oldest + t.pages)) && nat_lt t.most (told_at t (page_first (index_page t k) + j) k).count) refl
-          where
-            by_test : (b : Bool) → ((nat_le t.oldest (page_first (index_page t k) + j) && nat_lt (page_first (index_page t k) + j) (t.oldest + t.pages)) && nat_lt t.most (told_at t (page_first (index_page t k) + j) k).count) ≡ b →
-                cond b (Some (BadEntry (page_first (index_page t k) + j) (told_at t (page_first (index_page t k) + j) k).count t.most)) None ≡ None
-            by_test false e = refl
-            by_test true e =
-                let a = and_parts _ _ e in
-                let b = and_parts _ _ a.0 in
-                let low' = leb-true t.oldest (page_first (index_page t k) + j) b.0 in
-                let over' = ltb-true t.most (told_at t (page_first (index_page t k) + j) k).count a.1 in
-                let told_is = listed-told (page_first (index_page t k) + j) (omega (arith, begins)) (omega (arith, less, to)) (omega (arith, less, to, few)) in
-                let le = of_some (λ c. c ≤ t.most) (loaded_full now (page_first (index_page t k) + j)) (told_at t (page_first (index_page t k) + j) k) told_is (fine (page_first (index_page t k) + j) (omega (arith, begins, low', low_is)) less) in
-                absurd (omega (arith, over', le))
+        one j less = count-fine t k j (λ low' high' over'.
+            let told_is = listed-told (page_first (index_page t k) + j) (omega (arith, begins)) (omega (arith, less, to)) (omega (arith, less, to, few)) in
+            let le = of_some (λ c. c ≤ t.most) (loaded_full now (page_first (index_page t k) + j)) (told_at t (page_first (index_page t k) + j) k) told_is (fine (page_first (index_page t k) + j) (omega (arith, begins, low', low_is)) less) in
+            omega (arith, over', le))
 
         all : (a q : ℕ) → a + q ≤ t.per_page → page_first (index_page t k) + a ≤ number → number < page_first (index_page t k) + a + q → first_some (map (count_fault t k) (numbers_from a q)) ≡ Some (BadEntry number count t.most)
         all a zero le below above' = absurd (omega (arith, below, above'))

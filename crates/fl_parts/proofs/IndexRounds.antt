@@ -1,5 +1,6 @@
 -- The kept index pages are taken one after another, each when the data pages came that those before it say to list.
-use Rattle.std.proofs.Common.{◌≡◌, ℕ, suc, true, cond, Option, Some, unwrap_or, sym, ap, ◌+◌, ◌-◌, ◌^◌, ◌<◌, ◌≤◌, max, min, IsTrue, List, length, ◌∙◌, subst, arith}
+use Rattle.std.proofs.Common.{◌≡◌, ℕ, suc, true, cond, Option, Some, sym, ap, ◌+◌, ◌-◌, ◌^◌, ◌<◌, ◌≤◌, max, min, IsTrue, List, length, ◌∙◌, subst, arith}
+use Rattle.std.proofs.lemmas.Option.{same_Some}
 use Rattle.fl_find.specs.declared.index.KeyIndex.{KeyIndex}
 use Rattle.fl_flash.specs.Flash.{FlashState}
 use Rattle.fl_frame.specs.Reads.{OnlyReads}
@@ -66,9 +67,6 @@ le-on a b le = omega (arith, le)
 
 pub le-behind : (a b c : ℕ) → a < b → b ≡ c → a + 1 ≤ c
 le-behind a b c lt is = omega (arith, lt, is)
-
-pub le-two : (a b c : ℕ) → a ≤ b → b ≤ c → a ≤ c
-le-two a b c x y = omega (arith, x, y)
 
 -- behind the last page there is the next number
 pub at-end : (page next to : ℕ) → to ≡ next → page ≤ next → to ≤ page → page ≡ next
@@ -180,13 +178,10 @@ kept-full entries read now ring old new full running left ring-left =
     record {
       same = record { geometry = ring-left.same.geometry ∙ left.same.geometry; place = ring-left.same.place ∙ left.same.place; bits = ring-left.same.bits ∙ left.same.bits; full = ring-left.same.full ∙ left.same.full };
       still = subst (λ b. StaysFound b entries now) (sym full) (running-same read now ring-left.still ∙ left.running, still-oldest (Some read) (Some now) ring-left.still ∙ left.oldest, still-next (Some read) (Some now) ring-left.still ∙ left.next);
-      running = λ index e. subst (λ (i : BitmapIndex). is_running i ≡ true) (some-is now index e) (running-same read now ring-left.still ∙ (left.running ∙ running));
+      running = λ index e. subst (λ (i : BitmapIndex). is_running i ≡ true) (same_Some now index e) (running-same read now ring-left.still ∙ (left.running ∙ running));
       lies = still-lies (Some read) (Some now) new ring-left.same ring-left.still left.lies;
       reads = subst (λ n. OnlyReads old (n + (next_of ring - oldest_of ring)) new) pages left.reads;
     }
-  where
-    some-is : (a b : BitmapIndex) → Some a ≡ Some b → a ≡ b
-    some-is a b e = ap (λ (o : Option BitmapIndex). unwrap_or o a) e
 
 -- .. and where they aren't, none is read
 pub kept-same : (bitmaps : Option BitmapIndex) (ring : Ring) (f : FlashState) → AreRunning bitmaps → LieOn bitmaps f → LeavesKept bitmaps ring f bitmaps f

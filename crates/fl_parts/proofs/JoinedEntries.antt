@@ -22,14 +22,14 @@ use Rattle.fl_model.specs.Layout.{bitmap_of, bucket_of}
 use Rattle.fl_model.proofs.Lists.{last_or-push}
 use Rattle.fl_model.proofs.Sealed.{sealed-next}
 use Rattle.fl_model.proofs.Among.{after_seals-append}
-use Rattle.fl_model.proofs.TableSeals.{full-room_seals, room-room_seals}
+use Rattle.fl_model.proofs.TableSeals.{full-room_seals, room-room_seals, written-push}
+use Rattle.fl_model.proofs.Accepted.{IsAccepted}
 use Rattle.fl_parts.specs.Accepting.{IsAcceptedBy}
 use Rattle.fl_parts.specs.Blobs.{reference_of, rest_seals}
 use Rattle.fl_parts.proofs.BlobTables.{IsBlobbed}
 use Rattle.fl_parts.proofs.ListsStay.{tell-record}
-use Rattle.fl_parts.proofs.Plain.{IsPlainTable, written-push, some-table_seals}
+use Rattle.fl_parts.proofs.Plain.{IsPlainTable, some-table_seals}
 use Rattle.fl_parts.specs.Bitmaps.{bitmap_seals}
-use Rattle.fl_parts.proofs.Accepted.{IsAccepted}
 use Rattle.fl_parts.proofs.BlobSteps.{after-var, rest-var}
 use Rattle.fl_parts.specs.Entries.{bitmap_with}
 use Rattle.fl_parts.proofs.Memories.{last-sealed}

@@ -1,26 +1,26 @@
 -- What the kept pages of a table read as.
-use Rattle.std.proofs.Common.{◌≡◌, ℕ, zero, suc, ◌+◌, ◌-◌, ◌*◌, ◌^◌, ◌<◌, ◌≤◌, ◌⊎◌, Bool, true, Option, Some, None, IfSome, List, [], ◌∷◌, length, map, take, drop, refl, sym, ◌∙◌, ap, subst, arith, inl, inr}
+use Rattle.std.proofs.Common.{◌≡◌, ℕ, suc, ◌+◌, ◌-◌, ◌*◌, ◌^◌, ◌<◌, ◌≤◌, ◌⊎◌, Bool, true, Option, Some, None, IfSome, List, length, map, take, drop, sym, ◌∙◌, ap, subst, arith, inl, inr}
 use Rattle.std.proofs.Math.Nat.{le-div_iff_mul-le, mul-le-mul_left}
 use Rattle.std.proofs.lemmas.Bool.{cases_lt, false≢true}
 use Rattle.fl_parts.proofs.FullEntries.{full-on}
 use Rattle.std.proofs.lemmas.List.{length-map, length-take-le, length-drop, take_all}
-use Rattle.std.proofs.lemmas.List.Sums.{sum_by-cons, sum_by-take-le}
-use Rattle.std.specs.List.{slice_get, sum, sum_by, AllByRecursion}
-use Rattle.std.proofs.lemmas.Option.{none-some}
+use Rattle.std.proofs.lemmas.List.Sums.{sum_by-take-le}
+use Rattle.std.specs.List.{slice_get, sum}
 use Rattle.fl_mark.specs.Mark.{state_of_page}
 use Rattle.fl_mark.specs.declared.page_state.PageState.TheVariants.{Committed, Void}
 use Rattle.fl_mark.proofs.InModel.{model_state}
 use Rattle.fl_model.specs.Record.{Plan, row_layout, row_len, rows_per_page, has_var}
 use Rattle.fl_model.specs.Ring as model
-use Rattle.fl_model.specs.Row.{IsStorable, stored_row}
+use Rattle.fl_model.specs.Row.{stored_row}
 use Rattle.fl_model.specs.Table.{Table, Entry, DataRing, shape_of, written}
 use Rattle.fl_model.specs.Facts.{FitsPlan, BlobFits, is_some_ring}
 use Rattle.fl_model.specs.Layout.{data_body, committed, full_of}
 use Rattle.fl_index.specs.Page.{full_view}
 use Rattle.fl_model.specs.Image.{IsRingImage, HoldsRows, rows_at}
-use Rattle.fl_model.proofs.Lists.{slice_get-short, slice_get-drop, slice_get-front, each-drop, each-take, take_none}
+use Rattle.fl_model.proofs.Lists.{slice_get-short, slice_get-drop, slice_get-front, each-drop, each-take, take_none, each-at, sum_by-next}
 use Rattle.fl_model.proofs.BlobEnds.{AreNumbered}
-use Rattle.fl_parts.proofs.BlobRows.{stored-row, written-numbered}
+use Rattle.fl_model.proofs.StoredRows.{all-stored}
+use Rattle.fl_parts.proofs.BlobRows.{written-numbered}
 use Rattle.fl_parts.proofs.Loose.{IsLoose}
 use Rattle.fl_page.specs.Page.{IsGoodPage, rows_in}
 use Rattle.fl_page.proofs.DataPages.{data_page}
@@ -35,11 +35,6 @@ use Rattle.fl_parts.specs.Reading.{full_on}
 use Rattle.fl_parts.proofs.States.{shape_in, state_of, HaveSize, to-image}
 use Rattle.fl_find.specs.Pages.{rows_on, rows_where}
 
-each-at : {X : Type 0} (P : X → Type 0) (xs : List X) (i : ℕ) (x : X) → AllByRecursion P xs → slice_get xs i ≡ Some x → P x
-each-at {X} P [] i x h e = absurd (none-some x e)
-each-at P (y ∷ ys) zero x h e = let same : y ≡ x = cc in subst P same h.0
-each-at P (y ∷ ys) (suc i) x h e = each-at P ys i x h.1 e
-
 -- the blobs of a table without pending records begin on pages whose numbers fit
 pub table-numbered : (plan : Plan) (table : Table) → IsLoose plan table → table.pending ≡ 0 → AreNumbered table.entries
 table-numbered plan table facts none = λ i entry blob e is some.
@@ -53,21 +48,6 @@ table-numbered plan table facts none = λ i entry blob e is some.
     by_ring page None has is h = absurd (false≢true (has ∙ is))
     by_ring page (Some ring) has is h = h
 
--- rows that refer to blobs tell their bytes
-pub all-stored : (plan : Plan) (entries : List Entry) → AreNumbered entries → AllByRecursion (FitsPlan plan) entries → AllByRecursion (IsStorable (row_layout plan)) (map stored_row entries)
-all-stored plan [] numbered h = tt
-all-stored plan (entry ∷ entries) numbered h =
-    (stored-row plan entry h.0 (λ blob is some. numbered 0 entry blob refl is some), all-stored plan entries (λ i. numbered (suc i)) h.1)
-
--- a sum over one more
-pub sum-next : {X : Type 0} (f : X → ℕ) (xs : List X) (i : ℕ) (x : X) → slice_get xs i ≡ Some x → sum_by f (take (suc i) xs) ≡ sum_by f (take i xs) + f x
-sum-next {X} f [] i x e = absurd (none-some x e)
-sum-next {X} f (y ∷ ys) zero x e = let same : y ≡ x = cc in sum_by-cons f y (take 0 ys) ∙ (ap (λ (zs : List X). f y + sum_by f zs) (take_none ys) ∙ omega (arith, ap f same))
-sum-next f (y ∷ ys) (suc i) x e =
-    let h = sum-next f ys i x e in
-    let a = sum_by-cons f y (take (suc i) ys) in
-    let b = sum_by-cons f y (take i ys) in omega (arith, h, a, b)
-
 module _ (page : ℕ → List ℕ) (first : ℕ) (plan : Plan) (table : Table) (key : KeyWidth) (types : List ColumnType) (blobs : Bool) (same : layout_with key types blobs ≡ row_layout plan)
     (limit : plan.blob_limit ≤ 1500) (facts : IsLoose plan table) (none : table.pending ≡ 0) (large : 64 ≤ plan.geometry.page) (room : row_len plan + 24 ≤ plan.geometry.page) (some_row : 1 ≤ row_len plan)
     (short : plan.geometry.page ≤ 4096) (sizes : HaveSize first plan page) (on : OnRing (shape_in first plan) page (state_of plan table)) where
@@ -80,7 +60,7 @@ module _ (page : ℕ → List ℕ) (first : ℕ) (plan : Plan) (table : Table) (
 
   within : (i c : ℕ) → slice_get table.rows.counts i ≡ Some c → sum (take i table.rows.counts) + c ≤ length table.entries
   within i c e =
-      let next : sum (take (suc i) table.rows.counts) ≡ sum (take i table.rows.counts) + c = sum-next (λ (n : ℕ). n) table.rows.counts i c e in
+      let next : sum (take (suc i) table.rows.counts) ≡ sum (take i table.rows.counts) + c = sum_by-next (λ (n : ℕ). n) table.rows.counts i c e in
       omega (arith, next, sum_by-take-le (λ (n : ℕ). n) table.rows.counts (suc i), facts.kept.counted, none)
 
   as_many : (i c : ℕ) → slice_get table.rows.counts i ≡ Some c → length (rows_at table i c) ≡ c

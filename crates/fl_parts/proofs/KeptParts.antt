@@ -21,6 +21,7 @@ use Rattle.fl_page.specs.Page.{IsGoodPage, rows_from}
 use Rattle.fl_ring.specs.Place.{next_of, oldest_of}
 use Rattle.fl_ring.specs.declared.ring.Ring.{Ring}
 use Rattle.fl_ring.proofs.ReadsInTurn.{fewer_reads}
+use Rattle.fl_ring.proofs.Exists.{lies_still}
 use Rattle.fl_parts.specs.Faults.{IfPage, is_refused}
 use Rattle.fl_parts.specs.KeptSteps.{AreFew, CountsOne, FailsReading, HasCome, HasComeBy, HasRows, Keeps, MayRead}
 use Rattle.fl_parts.specs.Knowing.{IsWithin, is_waiting}
@@ -29,7 +30,7 @@ use Rattle.fl_parts.specs.declared.known.Known.{Known}
 use Rattle.fl_parts.specs.declared.load.PageRows.{PageRows}
 use Rattle.fl_parts.specs.declared.mount_fault.MountFault.{MountFault}
 use Rattle.fl_parts.proofs.KeyRows.{good-few, page-length}
-use Rattle.fl_parts.proofs.ListedPages.{data-lies, fails-later, some-room}
+use Rattle.fl_parts.proofs.ListedPages.{fails-later, some-room}
 use Rattle.fl_parts.proofs.Refused.{page-no_flash, page-page, page-pages}
 use Rattle.fl_parts.proofs.SparedReads.{spared-more, spared-none, spared-reads, spared-within, waiting-few}
 
@@ -46,7 +47,7 @@ pub may-still : {KNOTS SLOTS : ℕ} {layout : RowLayout} {ring : Ring} {f g : Fl
     MayRead layout ring f counts buf → OnlyReads f n g → Keeps counts index buf counts' index' buf' → MayRead layout ring g counts' buf'
 may-still {ring = ring} {f = f} {g = g} may reads keeps = record {
   row = may.row;
-  lies = data-lies ring f g reads.goes may.lies;
+  lies = lies_still ring f g may.lies reads.goes;
   places = keeps.size ∙ may.places;
   room = keeps.room ∙ (may.room ∙ sym (ap (λ (x : Geometry). x.page) reads.goes.geometry));
   none = keeps.none;

@@ -1,8 +1,9 @@
 -- The rows of one page, and their keys.
-use Rattle.std.proofs.Common.{◌≡◌, ℕ, zero, suc, ◌+◌, ◌-◌, ◌*◌, ◌<◌, ◌≤◌, Bool, true, false, cond, nat_lt, Option, Some, None, unwrap_or, List, [], ◌∷◌, length, drop, refl, sym, ◌∙◌, ap, arith}
+use Rattle.std.proofs.Common.{◌≡◌, ℕ, ◌+◌, ◌-◌, ◌*◌, ◌<◌, ◌≤◌, Bool, true, false, cond, nat_lt, Option, Some, None, unwrap_or, List, length, drop, refl, sym, ◌∙◌, ap, arith}
 use Rattle.std.proofs.Math.Nat.{le-div_iff_mul-le}
 use Rattle.std.proofs.lemmas.Bool.{ltb-true}
 use Rattle.std.specs.List.{slice_get}
+use Rattle.std.proofs.lemmas.List.{drop_all}
 use Rattle.fl_model.specs.Record.{RowLayout, layout_len}
 use Rattle.fl_model.specs.Row.{Row}
 use Rattle.fl_mark.specs.Mark.{state_of_page}
@@ -14,12 +15,6 @@ use Rattle.fl_parts.specs.Reading.{rises, keys_fault, last_in}
 use Rattle.fl_parts.specs.declared.mount_fault.MountFault.TheVariants.{BadKeys}
 use Rattle.fl_parts.proofs.Writers.{few-rows}
 use Rattle.fl_find.specs.Pages.{rows_on, rows_where}
-
-drop-end : (rows : List Row) (i : ℕ) → length rows ≤ i → drop i rows ≡ []
-drop-end [] zero h = refl
-drop-end [] (suc i) h = refl
-drop-end (row ∷ rows) zero h = absurd (omega arith)
-drop-end (row ∷ rows) (suc i) h = drop-end rows i (omega arith)
 
 -- one row on
 pub keys-next : (number i : ℕ) (rows : List Row) (row : Row) (last first : Option ℕ) → slice_get rows i ≡ Some row → rises last row.key ≡ true →
@@ -44,10 +39,10 @@ keys-bad number i rows row before first e le h =
 
 -- after the last row
 pub keys-end : (number i : ℕ) (rows : List Row) (last first : Option ℕ) → length rows ≤ i → keys_fault number first rows ≡ keys_fault number last (drop i rows) → keys_fault number first rows ≡ None
-keys-end number i rows last first le h = h ∙ ap (keys_fault number last) (drop-end rows i le)
+keys-end number i rows last first le h = h ∙ ap (keys_fault number last) (drop_all i rows le)
 
 pub last-end : (i : ℕ) (rows : List Row) (last first : Option ℕ) → length rows ≤ i → last_in first rows ≡ last_in last (drop i rows) → last ≡ last_in first rows
-last-end i rows last first le h = sym (h ∙ ap (last_in last) (drop-end rows i le))
+last-end i rows last first le h = sym (h ∙ ap (last_in last) (drop_all i rows le))
 
 -- a committed page has as many rows as it says
 pub page-length : (layout : RowLayout) (page : List ℕ) → state_of_page page ≡ Committed → length (rows_on layout page) ≡ page_count page

@@ -1,4 +1,3 @@
-pub mod SomeRows
 pub mod KeptPagesStay
 pub mod BlobSteps
 pub mod VarFacts
@@ -56,7 +55,6 @@ pub mod Repaired
 pub mod MountLifted
 pub mod Images
 pub mod Memories
-pub mod Accepted
 pub mod Voids
 pub mod StandingTotals
 pub mod StandingMount

@@ -69,16 +69,16 @@ listed-facts t number full e none =
     let unread = listed-unread t number (full_view full) e (void-newest t number void) in
     ap (λ b. cond b (by_page t number) (unwrap_or (entry t number) no_rows)) unread ∙ ap (λ (o : Option Full). unwrap_or o no_rows) e
 
+pub newest-wider : (oldest n : ℕ) (o : Option Listed) → IfSome o (λ listed. (oldest ≤ listed.number) × (listed.number < oldest + n)) → IfSome o (λ listed. (oldest ≤ listed.number) × (listed.number < oldest + suc n))
+newest-wider oldest n None h = tt
+newest-wider oldest n (Some listed) h = (h.0, omega (arith, h.1))
+
 pub within-void : (oldest n : ℕ) (known now : Known) (end : ℕ) → now ≡ record known { voids = known.voids + 1; blob_end = end } → IsWithin oldest n known → IsWithin oldest (suc n) now
 within-void oldest n known now end is h = record {
   rows = omega (arith, h.rows, ap (λ (x : Known). x.rows) is, ap (λ (x : Known). is_waiting x.newest * 65536) is);
   voids = omega (arith, h.voids, ap (λ (x : Known). x.voids) is);
-  newest = subst (λ (o : Option Listed). IfSome o (λ listed. (oldest ≤ listed.number) × (listed.number < oldest + suc n))) (sym (ap (λ (x : Known). x.newest) is)) (wider known.newest h.newest);
+  newest = subst (λ (o : Option Listed). IfSome o (λ listed. (oldest ≤ listed.number) × (listed.number < oldest + suc n))) (sym (ap (λ (x : Known). x.newest) is)) (newest-wider oldest n known.newest h.newest);
 }
-  where
-    wider : (o : Option Listed) → IfSome o (λ listed. (oldest ≤ listed.number) × (listed.number < oldest + n)) → IfSome o (λ listed. (oldest ≤ listed.number) × (listed.number < oldest + suc n))
-    wider None h = tt
-    wider (Some listed) h = (h.0, omega (arith, h.1))
 
 pub within-listed : (oldest n : ℕ) (known now : Known) (listed : Listed) → known.newest ≡ None → listed.number ≡ oldest + n → now ≡ record known { newest = Some listed } → IsWithin oldest n known → IsWithin oldest (suc n) now
 within-listed oldest n known now listed none at is h = record {

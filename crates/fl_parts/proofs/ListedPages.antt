@@ -1,21 +1,17 @@
 -- The kept index pages are read one after another, each as soon as the data pages below the ends of those before it came.
 use Rattle.std.proofs.Common.{◌≡◌, ℕ, suc, ◌+◌, ◌-◌, ◌*◌, ◌<◌, ◌≤◌, Bool, true, false, max, min, Option, Some, None, List, refl, sym, ◌∙◌, ap, subst, arith}
 use Rattle.std.specs.Prelude.{◌/◌, ◌%◌, Result, Ok, Err, OnOk, option_map, unwrap_or, slice_index_or, vec_len}
-use Rattle.fl_base.specs.declared.types.Geometry.{Geometry}
 use Rattle.fl_find.specs.declared.index.KeyIndex.{KeyIndex}
-use Rattle.fl_flash.specs.Flash.{FlashState, Goes, page_at}
-use Rattle.fl_index.specs.Memory.{first_in, form_in, len_in, per_page, oldest_in, next_in, place_in, ring_shape, IsSamePlan, IsSameRing, LiesOn as IndexLies}
+use Rattle.fl_flash.specs.Flash.{FlashState, page_at}
+use Rattle.fl_index.specs.Memory.{first_in, form_in, oldest_in, next_in, place_in, ring_shape, IsSamePlan, IsSameRing, LiesOn as IndexLies}
 use Rattle.fl_index.specs.Standing.{StandsBelow, HoldsIndex}
 use Rattle.fl_index.specs.declared.index.BitmapIndex.{BitmapIndex}
-use Rattle.fl_index.specs.declared.page.EntryForm.{EntryForm}
-use Rattle.fl_index.specs.Page.{form_len}
 use Rattle.fl_model.specs.Record.{Plan, RowLayout}
 use Rattle.fl_model.specs.Table as model
 use Rattle.fl_flash.specs.declared.flash.FlashFault.TheVariants.{PowerLost, Media}
 use Rattle.fl_frame.specs.Reads.{OnlyReads}
 use Rattle.fl_frame.specs.Causes.{ReadFails}
 use Rattle.fl_ring.specs.Mounting.{shape_at}
-use Rattle.fl_ring.specs.Place as place
 use Rattle.fl_ring.specs.Place.{shape_of, next_of, oldest_of}
 use Rattle.fl_ring.specs.Ring as rings
 use Rattle.fl_ring.specs.Ring.{Shape, room}
@@ -25,6 +21,7 @@ use Rattle.fl_frame.proofs.ReadsInTurn.{same_page}
 use Rattle.fl_index.proofs.Memories.{planned-same, ring-same}
 use Rattle.fl_model.specs.Ring.{oldest as model_oldest}
 use Rattle.fl_model.specs.Table.{first_of}
+use Rattle.fl_index.proofs.MountCalls.{same-entries}
 use Rattle.fl_parts.specs.ByEntries.{Come, end_before, listing_among, told_at, page_check, seen_before, unlisted_of}
 use Rattle.fl_parts.specs.Faults.{IfFlash}
 use Rattle.fl_parts.specs.declared.mount_fault.MountFault.{MountFault}
@@ -104,9 +101,6 @@ pub below-read : (bitmaps : BitmapIndex) (f g : FlashState) (n number first : �
 below-read bitmaps f g n number first plan table reads h =
     below-same bitmaps bitmaps f g number first plan table (record { geometry = refl; place = refl; bits = refl; full = refl }) (record { ring = refl; firsts = refl }) (same_content f g reads.goes reads.same) h
 
-pub data-lies : (ring : Ring) (f g : FlashState) → Goes f g → place.LiesOn ring f → place.LiesOn ring g
-data-lies ring f g goes h = record { page = ap (λ (x : Geometry). x.page) goes.geometry ∙ h.page; block = ap (λ (x : Geometry). x.block) goes.geometry ∙ h.block; within = omega (arith, h.within, goes.blocks) }
-
 pub ring-read : (bitmaps : Option BitmapIndex) (f g : FlashState) (n first : ℕ) (plan : Plan) (table : model.Table) → OnlyReads f n g → StandForRing bitmaps f first plan table → StandForRing bitmaps g first plan table
 ring-read None f g n first plan table reads h = tt
 ring-read (Some index) f g n first plan table reads h = record {
@@ -133,12 +127,6 @@ ring-stays (Some old) (Some new) f first plan table same still h = ring-same old
 pub index-lies-read : (bitmaps : BitmapIndex) (f g : FlashState) (n : ℕ) → OnlyReads f n g → IndexLies bitmaps f → IndexLies bitmaps g
 index-lies-read bitmaps f g n reads h = lies-goes (Some bitmaps) f g reads.goes h
 
--- how many entries an index page holds stays
-pub per-same : (old new : BitmapIndex) → IsSamePlan old new → per_page new ≡ per_page old
-per-same old new same =
-    let form : form_in new ≡ form_in old = ap (λ bits. record { width = bits / 8; full = new.full }) same.bits ∙ ap (λ full. record { width = old.bits / 8; full = full }) same.full in
-    ap (λ (e : EntryForm). (new.geometry.page - 24) / form_len e) form ∙ ap (λ (x : Geometry). (x.page - 24) / len_in old) same.geometry
-
 -- what a mount comes to stays what it comes to
 pub come-still : (t : Come) (layout : RowLayout) (most : ℕ) (old new : BitmapIndex) (ring : Ring) (f g : FlashState) (n : ℕ) → IsSamePlan old new → oldest_in new ≡ oldest_in old → next_in new ≡ next_in old → OnlyReads f n g → IsComeTo t layout most old ring f → IsComeTo t layout most new ring g
 come-still t layout most old new ring f g n same oldest next reads is = record {
@@ -146,7 +134,7 @@ come-still t layout most old new ring f g n same oldest next reads is = record {
   most_is = is.most_is;
   form = is.form ∙ sym form;
   full_is = is.full_is;
-  per = is.per ∙ sym (per-same old new same);
+  per = is.per ∙ sym (same-entries old new same);
   index_oldest = is.index_oldest ∙ sym oldest;
   index_pages = is.index_pages ∙ omega (arith, oldest, next);
   index = λ number. is.index number ∙ sym (ap (λ (s : Shape). page_at g (rings.place s number)) shape ∙ same_page f g n (place_in old number) reads);

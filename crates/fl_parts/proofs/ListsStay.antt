@@ -13,6 +13,7 @@ use Rattle.fl_model.specs.Record.{Plan, entries_per_page}
 use Rattle.fl_model.specs.Ring as model
 use Rattle.fl_model.specs.Ring.{oldest}
 use Rattle.fl_model.specs.Table.{Table, Entry, IndexRing, shape_of, full_pages}
+use Rattle.fl_model.proofs.Lists.{sum_by-next}
 use Rattle.fl_index.specs.declared.index.BitmapIndex.{BitmapIndex}
 use Rattle.fl_index.specs.Standing.{HasIndex, HoldsIndex, RemembersAll, RemembersBelow, StandsWith, StandsBelow, StandsForRing, bytes_in, first_told}
 use Rattle.fl_parts.specs.Pages.{place_in, bytes_in as table_bytes}
@@ -20,7 +21,6 @@ use Rattle.fl_ring.specs.Ring.{OutsideStands}
 use Rattle.fl_parts.proofs.States.{shape_in}
 use Rattle.fl_parts.proofs.Loose.{has-listed, loose-of}
 use Rattle.fl_parts.proofs.Plain.{IsPlainTable}
-use Rattle.fl_parts.proofs.KeptPages.{sum-next}
 
 -- entries tell of a table's pages what they told before records joined them
 pub tell-record : (plan : Plan) (table new : Table) (more : List Entry) (first : ℕ) (entries : List IndexEntry) → sum table.rows.counts ≤ length table.entries → new.entries ≡ table.entries ++ more → new.rows ≡ table.rows →
@@ -38,7 +38,7 @@ tell-record plan table new more first told few entries rows each j n lt e = by_c
     by_count None k = tt
     by_count (Some c) k = λ t.
         let here : slice_get table.rows.counts n ≡ Some c = ap (λ (r : model.Ring). slice_get r.counts n) (sym rows) ∙ k in
-        let next = sum-next (λ (x : ℕ). x) table.rows.counts n c here in
+        let next = sum_by-next (λ (x : ℕ). x) table.rows.counts n c here in
         let within = sum_by-take-le (λ (x : ℕ). x) table.rows.counts (suc n) in
         let same : rows_at table n c ≡ rows_at new n c = sym (rows_front table.entries more (sum (take n table.rows.counts)) c (omega (arith, next, within, few)))
         ∙ (ap (λ (es : List Entry). take c (drop (sum (take n table.rows.counts)) es)) (sym entries) ∙ ap (λ (r : model.Ring). take c (drop (sum (take n r.counts)) new.entries)) (sym rows)) in

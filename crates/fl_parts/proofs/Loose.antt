@@ -1,12 +1,12 @@
 -- The facts of a table on which its mount rests, by its parts: less than each run keeps, since page numbers need only fit, and a blob may
 -- begin on a void page.
-use Rattle.std.proofs.Common.{◌≡◌, ℕ, ◌+◌, ◌-◌, ◌<◌, ◌≤◌, ◌⊎◌, true, false, cond, Option, Some, None, IfSome, List, [], ◌∷◌, length, take, refl, sym, ◌∙◌, ap, subst, arith, IsTrue}
-use Rattle.std.proofs.lemmas.List.{take_all}
+use Rattle.std.proofs.Common.{◌≡◌, ℕ, ◌+◌, ◌-◌, ◌<◌, ◌≤◌, ◌⊎◌, true, false, cond, Option, Some, None, IfSome, List, [], length, take, refl, sym, ◌∙◌, ap, subst, arith, IsTrue}
+use Rattle.std.proofs.lemmas.List.{nil_from_length}
 use Rattle.std.specs.List.{slice_get, AllByRecursion}
 use Rattle.std.proofs.lemmas.Bool.{true≢false}
 use Rattle.fl_flash.specs.Flash.{FlashState}
 use Rattle.fl_index.specs.Standing.{HasIndex}
-use Rattle.fl_index.proofs.Lists.{below-end, first-at}
+use Rattle.fl_index.proofs.Lists.{below-end}
 use Rattle.fl_model.specs.Agrees.{TellPages, BlobsOf}
 use Rattle.fl_model.specs.Content.{ContentPage}
 use Rattle.fl_model.specs.Facts.{IsSettled, is_some_ring, counts_in}
@@ -17,6 +17,8 @@ use Rattle.fl_model.specs.Ring.{Ring, IsRing, oldest}
 use Rattle.fl_model.specs.Table.{Table, Entry, RingName, DataRing, IndexRing, VarRing, LogRing, shape_of, ring_of, spent_from, full_pages, firsts, written}
 use Rattle.fl_model.proofs.Kept.{AreKept}
 use Rattle.fl_model.proofs.Lists.{each-at}
+use Rattle.fl_model.proofs.TableSeals.{all-written}
+use Rattle.fl_model.proofs.FullIndex.{first-at}
 use Rattle.fl_parts.specs.Blobs.{AreIn, AreLed}
 use Rattle.fl_parts.specs.Mountable.{AreVoid, IsPaged, IsMountable}
 use Rattle.fl_parts.specs.Pages.{Rests, RestsToMount}
@@ -130,9 +132,6 @@ loose-of plan table h = record {
 
 -- ---- a table of which nothing is in memory
 
-pub all-written : (table : Table) → table.pending ≡ 0 → written table ≡ table.entries
-all-written table none = take_all (length table.entries - table.pending) table.entries (omega (arith, none))
-
 pub paged-loose : (plan : Plan) (table : Table) → plan.log_blocks ≡ 0 → table.pending ≡ 0 → table.buffered ≡ [] → table.waiting ≡ [] → IsPaged plan table → IsLoose plan table
 paged-loose plan table plain none empty idle h = record {
   plain = plain;
@@ -234,15 +233,11 @@ paged-ready plan table h = paged-as plan table (ready plan table).waiting (ready
 
 -- a table without an index lists nothing
 pub none-listed : (plan : Plan) (table : Table) → has_index plan ≡ false → IsListed plan table → table.index_pages ≡ []
-none-listed plan table none facts = by_pages table.index_pages (by_ring table.index facts.has facts.each)
+none-listed plan table none facts = nil_from_length table.index_pages (by_ring table.index facts.has facts.each)
   where
     by_ring : (o : Option Ring) → is_some_ring o ≡ has_index plan → length table.index_pages ≡ full_pages (counts_in o) → length table.index_pages ≡ 0
     by_ring None e k = k
     by_ring (Some r) e k = absurd (true≢false (e ∙ none))
-
-    by_pages : (pages : List IndexPage) → length pages ≡ 0 → pages ≡ []
-    by_pages [] e = refl
-    by_pages (x ∷ xs) e = absurd (omega (arith, e))
 
 -- the facts of an index among those of its table
 pub has-listed : (plan : Plan) (table : Table) (ring : Ring) → table.index ≡ Some ring → IsLoose plan table → length table.waiting ≤ entries_per_page plan → HasIndex plan table ring

@@ -1,28 +1,19 @@
 -- What a seal makes of what a table holds in memory.
-use Rattle.std.proofs.Common.{◌≡◌, ◌≢◌, ℕ, zero, suc, ◌+◌, ◌-◌, ◌*◌, ◌%◌, ◌<◌, ◌≤◌, Bool, true, false, cond, ◌==◌, Some, None, List, [], ◌∷◌, ◌++◌, length, take, drop, get_or, set, refl, sym, ◌∙◌, ap, arith, inl, inr, length-append, length-drop, get_or-set_other, get_or-set_same}
-use Rattle.std.proofs.lemmas.Bool.{ltb-true}
-use Rattle.std.proofs.lemmas.List.{take-append-le}
+use Rattle.std.proofs.Common.{◌≡◌, ◌≢◌, ℕ, zero, suc, ◌+◌, ◌-◌, ◌*◌, ◌%◌, ◌<◌, Bool, true, false, cond, Some, None, List, [], ◌∷◌, ◌++◌, length, take, drop, get_or, set, refl, sym, ◌∙◌, ap, arith, inl, inr, length-append, length-drop, get_or-set_other, get_or-set_same}
+use Rattle.std.proofs.lemmas.List.{take-append-le, drop_all}
 use Rattle.std.proofs.lemmas.List.Sums.{sum_by-take-drop}
-use Rattle.std.proofs.Math.Nat.{mod-lt, mul-le-mul_right, add-mul}
+use Rattle.std.proofs.Math.Nat.{mod-lt, add-mul}
 use Rattle.std.specs.List.{slice_get, last_or, sum}
 use Rattle.fl_model.specs.Record.{Plan}
 use Rattle.fl_model.specs.Ring as model
 use Rattle.fl_model.specs.Table.{Table, Entry, DataRing, shape_of, pending_entries, last_entry, after_seal}
-use Rattle.fl_model.proofs.Lists.{slice_get-drop, slice_get-push, slice_get-short, and_right}
+use Rattle.fl_model.proofs.Lists.{slice_get-drop, slice_get-push, slice_get-short}
+use Rattle.fl_model.proofs.Sealed.{full-long}
 use Rattle.fl_ring.proofs.Modulo.{apart}
-use Rattle.fl_parts.proofs.Sealed.{full_long}
 
 -- nothing is pending behind a seal
 pub none-pending : (plan : Plan) (table : Table) → pending_entries (after_seal plan DataRing table) ≡ []
-none-pending plan table = all_gone (after_seal plan DataRing table).entries
-  where
-    all_gone : (es : List Entry) → drop (length es - 0) es ≡ []
-    all_gone [] = refl
-    all_gone (e ∷ es) = ap (λ n. drop n (e ∷ es)) (let k : suc (length es) - 0 ≡ suc (length es) = omega arith in k) ∙ gone es
-      where
-        gone : (xs : List Entry) → drop (length xs) xs ≡ []
-        gone [] = refl
-        gone (x ∷ xs) = gone xs
+none-pending plan table = drop_all (length (after_seal plan DataRing table).entries - 0) (after_seal plan DataRing table).entries (omega arith)
 
 -- the last of a list stays where not all is dropped
 last_drop : (k : ℕ) (es : List Entry) → k < length es → last_or None (drop k es) ≡ last_or None es
@@ -39,18 +30,12 @@ last-sealed plan table shape counted some = by_test (model.is_full (shape_of pla
     by_test : (b : Bool) → model.is_full (shape_of plan DataRing) (model.extended table.pending table.rows) ≡ b →
         last_or None (drop (sum (cond b (take plan.geometry.block (table.rows.counts ++ table.pending ∷ [])) [])) table.entries) ≡ last_or None table.entries
     by_test true e =
-        let long = full_two (shape_of plan DataRing) (model.extended table.pending table.rows) shape e in
+        let long = full-long (shape_of plan DataRing) (model.extended table.pending table.rows) shape e in
         let len = length-append table.rows.counts (table.pending ∷ []) in
         let front : take plan.geometry.block (table.rows.counts ++ table.pending ∷ []) ≡ take plan.geometry.block table.rows.counts =
         take-append-le plan.geometry.block table.rows.counts (table.pending ∷ []) (omega (arith, long, len, shape.pages)) in
         let split = sum_by-take-drop (λ (n : ℕ). n) table.rows.counts plan.geometry.block in
         last_drop (sum (take plan.geometry.block (table.rows.counts ++ table.pending ∷ []))) table.entries (omega (arith, ap sum front, split, counted, some))
-      where
-        full_two : (s : model.Shape) (r : model.Ring) → model.IsShape s → model.is_full s r ≡ true → s.pages + 1 ≤ length r.counts
-        full_two s r k f =
-            let lt = ltb-true ((s.blocks - 1) * s.pages - 1) (length r.counts) (and_right (r.next % s.pages == s.pages - 1) _ f) in
-            let two : 2 * s.pages ≤ (s.blocks - 1) * s.pages = mul-le-mul_right s.pages (let e : 2 ≤ s.blocks - 1 = omega (arith, k.blocks) in e) in
-            omega (arith, lt, two, k.pages)
     by_test false e = last_drop 0 table.entries (omega (arith, counted, some))
 
 -- a ring keeps fewer pages than it has room for
@@ -98,7 +83,7 @@ module _ (plan : Plan) (table : Table) (counts : List ℕ) (shape : model.IsShap
           slice_get now.counts i ≡ Some c →
           get_or (set counts (table.rows.next % (plan.data_blocks * plan.geometry.block)) table.pending) ((model.oldest now + i) % (plan.data_blocks * plan.geometry.block)) 0 ≡ c
       by_test true e k =
-          let long = full_long (shape_of plan DataRing) (model.extended table.pending table.rows) shape e in
+          let long = full-long (shape_of plan DataRing) (model.extended table.pending table.rows) shape e in
           let old : table.rows.next + 1 - length (drop plan.geometry.block (table.rows.counts ++ table.pending ∷ [])) + i ≡ model.oldest table.rows + (plan.geometry.block + i) =
           omega (arith, more, long, length-drop plan.geometry.block (table.rows.counts ++ table.pending ∷ []), facts.not_negative) in
           ap (λ n. get_or (set counts (table.rows.next % (plan.data_blocks * plan.geometry.block)) table.pending) (n % (plan.data_blocks * plan.geometry.block)) 0) old

@@ -1,8 +1,9 @@
 -- What a mount does to the data ring, and what it keeps of the facts of its table: of those on which it rests, and of all of them.
-use Rattle.std.proofs.Common.{◌≡◌, ℕ, ◌+◌, ◌-◌, ◌*◌, ◌%◌, ◌<◌, ◌≤◌, ◌⊎◌, inl, inr, Bool, true, false, cond, nat_lt, Option, Some, None, List, [], ◌∷◌, length, take, drop, refl, sym, ◌∙◌, ap, subst, arith, IsTrue, ◌&&◌}
+use Rattle.std.proofs.Common.{◌≡◌, ℕ, ◌+◌, ◌-◌, ◌*◌, ◌%◌, ◌<◌, ◌≤◌, ◌⊎◌, inl, inr, Bool, true, false, cond, nat_lt, Option, Some, None, List, [], ◌∷◌, length, take, drop, refl, sym, ◌∙◌, ap, subst, arith, IsTrue}
 use Rattle.std.proofs.Math.Nat.{mod-lt, add-mod_right, mul-le-mul_right}
 use Rattle.std.proofs.lemmas.Bool.{cases_lt, false≢true}
 use Rattle.std.specs.List.{slice_get, sum, list_any}
+use Rattle.fl_base.proofs.Tests.{and_false}
 use Rattle.fl_model.specs.Facts.{is_some_ring, counts_in}
 use Rattle.fl_model.specs.Index.{IndexPage}
 use Rattle.fl_model.specs.Mount.{index_end, least_alike, renumber}
@@ -13,11 +14,12 @@ use Rattle.fl_model.proofs.EntriesStayTold.{telling-stays}
 use Rattle.fl_model.proofs.Kept.{AreKept}
 use Rattle.fl_model.proofs.RingFactsStay.{ring-sealed}
 use Rattle.fl_model.proofs.Sealed.{sealed-next, sealed-torn, kept-sealed, entries_after}
+use Rattle.fl_model.proofs.TableSeals.{all-written}
 use Rattle.fl_ring.proofs.Modulo.{apart}
 use Rattle.fl_ring.proofs.SamePlaces.{least_is_alike}
 use Rattle.fl_parts.specs.Mountable.{AreVoid}
 use Rattle.fl_parts.proofs.BlobTables.{AreInPages}
-use Rattle.fl_parts.proofs.Loose.{IsLoose, IsStrict, all-written, led-as, listed-as, listed-end, loose-of, plain-from}
+use Rattle.fl_parts.proofs.Loose.{IsLoose, IsStrict, led-as, listed-as, listed-end, loose-of, plain-from}
 use Rattle.fl_parts.proofs.Plain.{IsPlainTable, least-below, pages-front, pages-rest, sealed-oldest, stand-as, stand_given, tell-none}
 use Rattle.fl_parts.proofs.VarFacts.{front-of, rest-of}
 
@@ -33,17 +35,13 @@ loose-erase plan table h = record {
     kept = h.rows.kept;
     kept_at_end = h.rows.kept_at_end;
     dirty_at_end = λ d. absurd (false≢true d);
-    not_both = λ both. not_dirty table.rows.torn both;
+    not_both = λ both. and_false table.rows.torn both;
   };
   kept = h.kept;
   index = listed-as plan table table.entries (erased table.rows) table.pending table.buffered table.waiting table.points h.index h.index.listed h.index.tell h.index.wait;
   blobs = led-as plan table table.entries (erased table.rows) table.pending table.waiting table.points (λ i entry e. (i, e)) (stand-as plan table (with_ring DataRing erased table) refl (λ ring number. refl) h.blobs.stand) h.blobs;
   number = h.number;
 }
-  where
-    not_dirty : (t : Bool) → IsTrue (t && false) → ⊥
-    not_dirty true e = cc
-    not_dirty false e = cc
 
 -- a torn page is voided
 pub loose-void : (plan : Plan) (table : Table) → IsShape (shape_of plan DataRing) → IsLoose plan table → table.pending ≡ 0 → table.waiting ≡ [] → table.rows.torn ≡ true → table.rows.dirty ≡ false →

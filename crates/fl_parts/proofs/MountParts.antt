@@ -1,14 +1,8 @@
 -- What the parts of a mount cost together, and what a part says of the whole: what it found, and why it failed.
-use Rattle.std.proofs.Common.{◌≡◌, ℕ, ◌+◌, ◌-◌, ◌*◌, ◌<◌, ◌≤◌, min, Bool, true, false, cond, ◌&&◌, ◌==◌, sym, ap, subst, arith, IsTrue, ◌%◌, Option, Some, None, IfSome, get_or, ◌∙◌}
-use Rattle.std.proofs.Math.Nat.{mul-le-mul_right, add-mul}
+use Rattle.std.proofs.Common.{◌≡◌, ℕ, ◌+◌, ◌*◌, Bool, true, false, sym, ap, subst, arith, ◌%◌, Option, Some, None, IfSome, get_or, ◌∙◌}
 use Rattle.fl_flash.specs.Flash.{FlashState, Goes}
-use Rattle.fl_ring.specs.Finding.{kept_pages, kept_at, full_of}
-use Rattle.fl_ring.specs.Head.{one, fulls}
+use Rattle.fl_ring.specs.Head.{one}
 use Rattle.fl_frame.specs.Reads.{FewReads}
-use Rattle.fl_ring.specs.Mounting.{HasNumbers}
-use Rattle.fl_ring.specs.Place.{next_of, oldest_of}
-use Rattle.fl_ring.specs.Ring.{Shape, room, is_due_at}
-use Rattle.fl_ring.specs.declared.ring.Ring.{Ring}
 use Rattle.fl_index.specs.declared.index.BitmapIndex.{BitmapIndex}
 use Rattle.fl_index.specs.Memory as memory
 use Rattle.fl_ring.specs.declared.fault.RingFault.TheVariants as ring
@@ -24,39 +18,6 @@ use Rattle.fl_parts.specs.Faults.{MountCausedBy, IfFlash, is_of_pages, of_ring}
 use Rattle.fl_parts.specs.declared.mount_fault.MountFault.{MountFault}
 use Rattle.fl_parts.specs.declared.mount_fault.MountFault.TheVariants as mount
 use Rattle.fl_parts.specs.declared.mount_fault.MountFault.TheVariants.{Flash, Ring as OfRing, BadPage, BadKeys, BadIndex, BadBlob, BadEntry}
-
--- a ring is found to keep fewer pages than it has
-kept-few : (r : Shape) (full sealed : ℕ) → 1 ≤ r.blocks → sealed < r.per_block → kept_pages r full sealed < room r
-kept-few r full sealed some below = by_test (sealed == r.per_block - 1)
-  where
-    by_test : (b : Bool) → min full (cond b (r.blocks - 2) (r.blocks - 1)) * r.per_block + sealed < r.blocks * r.per_block
-    by_test b =
-        let few : min full (cond b (r.blocks - 2) (r.blocks - 1)) ≤ r.blocks - 1 = at_most b in
-        let le : min full (cond b (r.blocks - 2) (r.blocks - 1)) * r.per_block ≤ (r.blocks - 1) * r.per_block = mul-le-mul_right r.per_block few in
-        let last : (r.blocks - 1 + 1) * r.per_block ≡ (r.blocks - 1) * r.per_block + 1 * r.per_block = add-mul (r.blocks - 1) 1 r.per_block in
-        let same : r.blocks - 1 + 1 ≡ r.blocks = omega (arith, some) in
-        omega (arith, le, last, ap (λ n. n * r.per_block) same, below)
-      where
-        at_most : (b : Bool) → min full (cond b (r.blocks - 2) (r.blocks - 1)) ≤ r.blocks - 1
-        at_most true = omega arith
-        at_most false = omega arith
-
-pub ring-few : (old new : FlashState) (r : Shape) (least : ℕ) (ring : Ring) → 1 ≤ r.blocks → HasNumbers old r least ring new → IsTrue old.media.tells → next_of ring - oldest_of ring ≤ room r
-ring-few old new r least ring some h told =
-    let found = h.is_found told in
-    let few : kept_at old r found.front < room r = kept-few r (fulls (full_of old r) r.blocks) found.front.sealed some found.head.front_is.below in
-    let next = h.next in
-    let more : one h.numbers.torn ≤ 1 = one_at_most h.numbers.torn in
-    let low : h.numbers.oldest ≤ ring.oldest = subst (λ n. h.numbers.oldest ≤ n) (sym h.oldest) (not_less (h.numbers.torn && is_due_at r ring.next (ring.next - h.numbers.oldest))) in
-    omega (arith, few, next, more, low, found.oldest)
-  where
-    one_at_most : (b : Bool) → one b ≤ 1
-    one_at_most true = omega arith
-    one_at_most false = omega arith
-
-    not_less : (b : Bool) → h.numbers.oldest ≤ cond b (h.numbers.oldest + r.per_block) h.numbers.oldest
-    not_less true = omega arith
-    not_less false = omega arith
 
 -- what the mount of the index alone reads, and how often it repairs, where the other rings weren't come to
 pub index-reads : (a b c : ℕ) (old new : FlashState) → FewReads (4 * b) old new → FewReads (4 * (a + b + c)) old new

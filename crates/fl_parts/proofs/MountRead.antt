@@ -13,7 +13,9 @@ use Rattle.fl_model.specs.Table.{Table, Entry}
 use Rattle.fl_find.specs.Pages.{rows_on}
 use Rattle.fl_index.specs.Page.{full_view}
 use Rattle.fl_page.specs.Page.{IsGoodPage}
+use Rattle.fl_page.proofs.Views.{good-form}
 use Rattle.fl_ring.specs.Ring.{OnRing, place}
+use Rattle.fl_ring.proofs.PageStates.{committed-is}
 use Rattle.fl_schema.specs.Form.{layout_with}
 use Rattle.fl_schema.specs.declared.column.ColumnType.{ColumnType}
 use Rattle.fl_schema.specs.declared.schema.KeyWidth.{KeyWidth}
@@ -25,7 +27,6 @@ use Rattle.fl_parts.proofs.KeyRows.{page-length}
 use Rattle.fl_parts.proofs.Loose.{IsLoose}
 use Rattle.fl_parts.proofs.StandingMount.{IsPageOf}
 use Rattle.fl_parts.proofs.States.{shape_in, state_of, HaveSize}
-use Rattle.fl_parts.proofs.Unlisted.{committed-is, good-form}
 
 -- each of them holds the rows that the table has there
 pub record HoldRows (table : Table) (layout : RowLayout) (page : ℕ → List ℕ) (number : ℕ) : Type 0 where

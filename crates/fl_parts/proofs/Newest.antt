@@ -1,6 +1,7 @@
 -- All data pages came, and the one that waits is the newest with rows: it is read.
 use Rattle.std.proofs.Common.{◌≡◌, ℕ, suc, ◌+◌, ◌-◌, ◌%◌, ◌≤◌, true, max, Option, Some, None, List, [], ◌∷◌, ◌++◌, length, sym, ◌∙◌, ap, subst, arith}
 use Rattle.std.specs.Prelude.{cond, unwrap_or, slice_set}
+use Rattle.fl_base.proofs.Tests.{not_zero}
 use Rattle.fl_find.specs.Index.{IndexOf}
 use Rattle.fl_find.specs.Pages.{first_key, rows_on}
 use Rattle.fl_find.specs.declared.index.KeyIndex.{KeyIndex}
@@ -21,7 +22,6 @@ use Rattle.fl_parts.proofs.PointsKnown.{further-known}
 use Rattle.fl_parts.proofs.WaitingPageComes.{knows-aside, points-aside}
 use Rattle.fl_parts.proofs.Steps.{newest-read, newest-check, newest-refused, fault-refused, newest-all}
 use Rattle.fl_parts.proofs.Unlisted.{first-some, last-some}
-use Rattle.fl_parts.proofs.SomeRows.{not_zero}
 
 module _ {KNOTS SLOTS : ℕ} (error : ℕ) (t : Come) (known : Known) (counts : List ℕ) (index : KeyIndex KNOTS SLOTS) (h : KnowsWith error t t.index_pages t.pages known counts index)
     (listed : Listed) (e : known.newest ≡ Some listed) (layout : RowLayout) (bytes : List ℕ) (layout_is : t.layout ≡ layout) (bytes_are : t.rows listed.number ≡ bytes) where

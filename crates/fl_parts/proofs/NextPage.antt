@@ -79,6 +79,18 @@ noted-here t p rows counts lt is =
     ap (λ k. get_or (set counts ((t.oldest + p) % length counts) rows) ((t.oldest + p) % k) 0) (length-set counts ((t.oldest + p) % length counts) rows)
     ∙ (get_or-set_same counts ((t.oldest + p) % length counts) rows 0 (mod-lt (t.oldest + p) (omega (arith, lt))) ∙ is)
 
+-- .. and so all of them are, where all but that of one page were
+pub noted-set : (t : Come) (p n rows : ℕ) (counts : List ℕ) → p < length counts → n ≤ length counts → rows ≡ (facts_on t (t.oldest + p)).count → AreNoted t 0 p counts → AreNoted t (suc p) n counts →
+    AreNoted t 0 n (set counts ((t.oldest + p) % length counts) rows)
+noted-set t p n rows counts within fits is before behind i low high = elim (cases_lt i p) [
+  | inl less ↦ noted-other t p i rows counts (λ e. omega (arith, less, e)) (omega (arith, high, fits)) within (before i low less)
+  | inr ge ↦ elim (cases_lt p i) [
+    | inl above ↦ noted-other t p i rows counts (λ e. omega (arith, above, e)) (omega (arith, high, fits)) within (behind i (omega (arith, above)) high)
+    | inr le ↦ subst (λ j. slice_index (set counts ((t.oldest + p) % length counts) rows) ((t.oldest + j) % length (set counts ((t.oldest + p) % length counts) rows)) ≡ (facts_on t (t.oldest + j)).count)
+        (let e : p ≡ i = omega (arith, ge, le) in e) (noted-here t p rows counts within is)
+  ]
+]
+
 -- those from one on up to n, and the p-th
 pub noted-more : (t : Come) (from n p rows : ℕ) (counts : List ℕ) → n ≤ length counts → p < length counts → rows ≡ (facts_on t (t.oldest + p)).count → AreNoted t from n counts →
     AreNoted t from n (set counts ((t.oldest + p) % length counts) rows)

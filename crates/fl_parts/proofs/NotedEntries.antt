@@ -1,12 +1,11 @@
 -- The entries that a mount notes as it reads the pages.
-use Rattle.std.proofs.Common.{◌≡◌, ℕ, ◌+◌, ◌-◌, ◌/◌, ◌%◌, ◌^◌, ◌<◌, ◌≤◌, ◌==◌, Bool, true, false, cond, IsTrue, min, max, List, [], length, Option, Some, None, IfSome, refl, sym, ◌∙◌, ap, subst, arith, ◌⊎◌, inl, inr}
+use Rattle.std.proofs.Common.{◌≡◌, ℕ, ◌+◌, ◌-◌, ◌/◌, ◌%◌, ◌^◌, ◌<◌, ◌≤◌, ◌==◌, Bool, true, false, IsTrue, min, max, List, [], length, Option, Some, None, IfSome, refl, sym, ◌∙◌, ap, subst, arith, ◌⊎◌, inl, inr}
 use Rattle.std.proofs.lemmas.Bool.{cases_lt, eqb-true, false≢true}
 use Rattle.std.proofs.Math.Nat.{mod-lt, mod-eq_of_lt}
 use Rattle.std.proofs.lemmas.Option.{none-some}
-use Rattle.fl_base.specs.declared.types.Geometry.{Geometry}
 use Rattle.fl_index.specs.declared.index.BitmapIndex.{BitmapIndex}
 use Rattle.fl_index.specs.declared.page.Full.{Full}
-use Rattle.fl_index.specs.Memory.{waiting_in, first_waiting, per_page, IsSamePlan}
+use Rattle.fl_index.specs.Memory.{waiting_in, first_waiting, per_page}
 use Rattle.fl_index.specs.Page.{full_view}
 use Rattle.fl_index.specs.Standing.{Waits}
 use Rattle.fl_model.specs.Layout.{IndexEntry, bitmap_of}
@@ -21,6 +20,7 @@ use Rattle.fl_mark.specs.declared.page_state.PageState.{PageState}
 use Rattle.fl_mark.specs.declared.page_state.PageState.TheVariants.{Committed}
 use Rattle.fl_model.specs.Layout.{committed, data_body, is_void}
 use Rattle.fl_model.specs.Row.{le, number_of}
+use Rattle.fl_index.proofs.MountCalls.{same-entries}
 use Rattle.fl_page.specs.Header.{page_bitmap}
 use Rattle.fl_ring.proofs.Found.{committed_state}
 use Rattle.fl_ring.proofs.Images.{committed_is}
@@ -38,17 +38,12 @@ pub gather-first : (layout : RowLayout) (bitmaps : Option BitmapIndex) (low high
 gather-first layout None low high number page e h = refl
 gather-first layout (Some index) low high number page e h = λ waits. subst (λ k. Waits index (first_waiting index) (entries_on layout page (first_waiting index) k)) (let z : 0 ≡ number - first_waiting index = omega (arith, h.1, e) in z) waits
 
-per_same : (old new : BitmapIndex) → IsSamePlan old new → per_page new ≡ per_page old
-per_same old new same =
-    ap (λ (x : Geometry). (x.page - 24) / (new.bits / 8 + (cond new.full 14 0))) same.geometry
-    ∙ (ap (λ n. (old.geometry.page - 24) / (n / 8 + (cond new.full 14 0))) same.bits ∙ ap (λ b. (old.geometry.page - 24) / (old.bits / 8 + (cond b 14 0))) same.full)
-
 -- there is room for the next
 pub gather-room : (old now : Option BitmapIndex) (low high number : ℕ) → WaitFor old low high → number < high → AreSamePlan old now → AreGathered old number now → EndAt now number → HaveRoom now
 gather-room None now low high number h lt same g end = λ index e. absurd (none-some index (sym g ∙ e))
 gather-room (Some old) None low high number h lt same g end = absurd g
 gather-room (Some old) (Some now) low high number h lt same g end = λ index e.
-    let per = per_same old now same in
+    let per = same-entries old now same in
     let room : waiting_in now < per_page now = omega (arith, g.0, g.1, h.3, lt, end now refl, per) in
     subst (λ (o : Option BitmapIndex). IfSome o (λ x. waiting_in x < per_page x)) e room
 
@@ -101,7 +96,7 @@ pub wait-for : (was now : Option BitmapIndex) (end low high first : ℕ) → fir
 wait-for was None end low high first is below le same idle at = tt
 wait-for None (Some now) end low high first is below le same idle at = absurd same
 wait-for (Some was) (Some now) end low high first is below le same idle at =
-    let per = per_same was now same in
+    let per = same-entries was now same in
     let here = at now refl in
     (idle, omega (arith, is, here, idle, below, le), omega (arith, is, here, idle), omega (arith, is, here, idle, per))
 
@@ -132,7 +127,7 @@ pub first-same : (was now : Option BitmapIndex) (end low high : ℕ) → AreSame
 first-same None None end low high same = refl
 first-same None (Some now) end low high same = absurd same
 first-same (Some was) None end low high same = absurd same
-first-same (Some was) (Some now) end low high same = ap (λ per. high - min (high - max end low) per) (per_same was now same)
+first-same (Some was) (Some now) end low high same = ap (λ per. high - min (high - max end low) per) (same-entries was now same)
 
 -- the bitmap in the header of a data page is that of its rows
 bits_small : (bits b : ℕ) → IsTrue (is_bits bits) → b % 256 ^ (bits / 8) ≡ b → b % 256 ^ 8 ≡ b

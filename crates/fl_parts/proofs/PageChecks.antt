@@ -1,9 +1,10 @@
 -- What the check of a data page comes to, and what is known of it.
-use Rattle.std.proofs.Common.{◌≡◌, ℕ, suc, ◌+◌, ◌-◌, ◌<◌, ◌≤◌, inl, inr, Bool, true, false, ◌&&◌, ◌||◌, nat_lt, max, Option, Some, None, List, [], ◌∷◌, ◌++◌, map, refl, sym, ◌∙◌, ap, arith}
+use Rattle.std.proofs.Common.{◌≡◌, ℕ, suc, ◌+◌, ◌-◌, ◌<◌, ◌≤◌, inl, inr, Bool, true, false, ◌&&◌, ◌||◌, nat_lt, max, Option, Some, None, List, [], ◌∷◌, ◌++◌, map, refl, sym, ◌∙◌, ap, arith, zero, nat_le, cond}
 use Rattle.std.specs.Prelude.{option_map, unwrap_or}
 use Rattle.std.specs.Option.{is_none}
-use Rattle.std.proofs.lemmas.Bool.{cases_lt, lt-ltb}
+use Rattle.std.proofs.lemmas.Bool.{cases_lt, lt-ltb, leb-true, ltb-true, and_parts}
 use Rattle.fl_find.specs.Pages.{rows_on, rows_where}
+use Rattle.fl_index.specs.Page.{page_first}
 use Rattle.fl_mark.specs.Mark.{state_of_page}
 use Rattle.fl_mark.specs.declared.page_state.PageState.{PageState}
 use Rattle.fl_mark.specs.declared.page_state.PageState.TheVariants.{Blank, Torn, Committed, Void}
@@ -12,9 +13,10 @@ use Rattle.fl_model.specs.Limits.{numbers_from}
 use Rattle.fl_model.specs.Record.{RowLayout}
 use Rattle.fl_model.specs.Table.{first_of}
 use Rattle.fl_ring.specs.Newest.{commits}
-use Rattle.fl_parts.specs.ByEntries.{Come, entry, is_committed, has_rows, are_void, is_newest, is_read, facts_on, known_after, page_check, first_some, index_check, seen_before, page_checks, checks_from}
+use Rattle.fl_parts.specs.ByEntries.{Come, entry, is_committed, has_rows, are_void, is_newest, is_read, facts_on, known_after, page_check, first_some, index_check, seen_before, page_checks, checks_from, index_page, told_at, count_fault}
 use Rattle.fl_parts.specs.Knowing.{left}
 use Rattle.fl_parts.specs.declared.mount_fault.MountFault.{MountFault}
+use Rattle.fl_parts.specs.declared.mount_fault.MountFault.TheVariants.{BadEntry}
 
 pub no_both : {P : Type 0} (b : Bool) → b ≡ true → b ≡ false → P
 no_both true e k = absurd (cc k)
@@ -125,3 +127,22 @@ pub left-none : (t : Come) → left t t.index_pages t.pages ≡ None
 left-none t =
     ap (λ r. first_some (checks_from t t.index_pages t.pages r)) (let e : t.index_pages - t.index_pages ≡ 0 = omega arith in e)
     ∙ ap (λ z. first_some (map (page_check t) (numbers_from t.pages z))) (let e : t.pages - t.pages ≡ 0 = omega arith in e)
+
+-- ---- the counts that an index page tells
+
+-- one is fine where it can't be too great
+pub count-fine : (t : Come) (k j : ℕ) →
+    (t.oldest ≤ page_first (index_page t k) + j → page_first (index_page t k) + j < t.oldest + t.pages → t.most < (told_at t (page_first (index_page t k) + j) k).count → ⊥) → count_fault t k j ≡ None
+count-fine t k j never = by_test ((nat_le t.oldest (page_first (index_page t k) + j) && nat_lt (page_first (index_page t k) + j) (t.oldest + t.pages)) && nat_lt t.most (told_at t (page_first (index_page t k) + j) k).count) refl
+  where
+    by_test : (b : Bool) → ((nat_le t.oldest (page_first (index_page t k) + j) && nat_lt (page_first (index_page t k) + j) (t.oldest + t.pages)) && nat_lt t.most (told_at t (page_first (index_page t k) + j) k).count) ≡ b →
+        cond b (Some (BadEntry (page_first (index_page t k) + j) (told_at t (page_first (index_page t k) + j) k).count t.most)) None ≡ None
+    by_test false e = refl
+    by_test true e =
+        let a = and_parts _ _ e in
+        let b = and_parts _ _ a.0 in
+        absurd (never (leb-true t.oldest (page_first (index_page t k) + j) b.0) (ltb-true (page_first (index_page t k) + j) (t.oldest + t.pages) b.1) (ltb-true t.most (told_at t (page_first (index_page t k) + j) k).count a.1))
+
+pub counts-none : (t : Come) (k : ℕ) → ((j : ℕ) → j < t.per_page → count_fault t k j ≡ None) → (a q : ℕ) → a + q ≤ t.per_page → first_some (map (count_fault t k) (numbers_from a q)) ≡ None
+counts-none t k one a zero le = refl
+counts-none t k one a (suc q) le = ap (λ (o : Option MountFault). first_of o (first_some (map (count_fault t k) (numbers_from (a + 1) q)))) (one a (omega (arith, le))) ∙ counts-none t k one (a + 1) q (omega (arith, le))

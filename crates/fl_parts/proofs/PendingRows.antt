@@ -5,7 +5,7 @@ use Rattle.std.specs.List.{slice_get}
 use Rattle.std.proofs.lemmas.Bool.{cases_lt, lt-leb, leb-false, true≢false}
 use Rattle.std.proofs.lemmas.List.{length-map}
 use Rattle.std.proofs.lemmas.Option.{none-some, same_Some}
-use Rattle.fl_find.proofs.Entries.{found-at, found-none, row-entry, rows-rise}
+use Rattle.fl_find.proofs.Entries.{found-at, found-none, row-entry, rows-rise, entry-row}
 use Rattle.fl_find.proofs.Firsts.{Ascending}
 use Rattle.fl_find.specs.Rows.{RowsRise, HasKey, LacksKey}
 use Rattle.fl_model.specs.Facts.{IsTable}
@@ -106,13 +106,8 @@ module _ (plan : Plan) (table : Table) (facts : IsTable plan table) where
       (λ less. let below = written-below key i entry is at less in omega (arith, below, k))
       (λ le.
       let split : n + (i - n) ≡ i = omega (arith, le) in
-      lacks (i - n) (stored_row entry) (map-get (pending_entries table) (i - n) entry (slice_get-drop n table.entries (i - n) ∙ (ap (slice_get table.entries) split ∙ at))) k)
+      lacks (i - n) (stored_row entry) (entry-row (pending_entries table) (i - n) entry (slice_get-drop n table.entries (i - n) ∙ (ap (slice_get table.entries) split ∙ at))) k)
       (cases_lt i n))
-    where
-      map-get : (es : List Entry) (i : ℕ) (entry : Entry) → slice_get es i ≡ Some entry → slice_get (map stored_row es) i ≡ Some (stored_row entry)
-      map-get [] i entry e = absurd (none-some entry e)
-      map-get (x ∷ es) zero entry e = let same : x ≡ entry = cc in ap (λ (y : Entry). Some (stored_row y)) same
-      map-get (x ∷ es) (suc i) entry e = map-get es i entry e
 
   -- how many pending rows there are
   pub pending-many : length (map stored_row (pending_entries table)) ≡ table.pending

@@ -2,8 +2,8 @@
 use Rattle.std.proofs.Common.{◌≡◌, ℕ, ◌+◌, ◌-◌, ◌%◌, ◌<◌, ◌≤◌, ◌⊎◌, inl, inr, Bool, true, false, cond, ◌&&◌, ◌==◌, nat_lt, Option, Some, None, IfSome, List, [], ◌∷◌, ◌++◌, length, map, filter, take, drop, refl, sym, ◌∙◌, ap, subst, arith, IsTrue, append_assoc, length-append, length-drop}
 use Rattle.std.proofs.Math.Nat.{mod-lt}
 use Rattle.std.proofs.lemmas.Bool.{eqb-true, cases_lt, false≢true}
-use Rattle.std.proofs.lemmas.List.{take-append-le}
 use Rattle.std.specs.List.{slice_get, sum, AllByRecursion}
+use Rattle.fl_base.proofs.Tests.{and_false}
 use Rattle.fl_model.specs.Record.{Plan, has_index, rows_per_page, entries_per_page, content_per_page}
 use Rattle.fl_model.specs.Ring.{Shape, IsShape, Ring, IsRing, oldest, sealed, given_up, is_full, extended, begun, erased}
 use Rattle.fl_model.specs.Agrees.{TellPages, BlobsOf, content_at, reach_of}
@@ -17,7 +17,8 @@ use Rattle.fl_model.proofs.Kept.{AreKept, kept-lose}
 use Rattle.fl_model.proofs.Sealed.{sealed-next, sealed-torn, kept-sealed}
 use Rattle.fl_model.proofs.RingFactsStay.{ring-sealed}
 use Rattle.fl_model.proofs.EntriesStayTold.{telling-stays}
-use Rattle.fl_index.proofs.Lists.{below-end, first-at}
+use Rattle.fl_model.proofs.FullIndex.{first-at}
+use Rattle.fl_index.proofs.Lists.{below-end}
 use Rattle.fl_parts.proofs.Bare.{IsBare, bare-table, bare-pages, bare-log}
 use Rattle.fl_parts.proofs.BlobTables.{AreInPages, IsBlobbed, blobbed-in, blobbed-stand, facts-blobbed}
 use Rattle.fl_parts.proofs.VarFacts.{blobs-as, blobs-in, front-of}
@@ -130,12 +131,6 @@ pages-front plan table entries n h = λ i entry blob e k some. h i entry blob (s
 pub pages-rest : (plan : Plan) (table : Table) (entries : List Entry) (n : ℕ) → AreInPages plan table entries → AreInPages plan table (drop n entries)
 pages-rest plan table entries n h = λ i entry blob e k some. h (n + i) entry blob (sym (slice_get-drop n entries i) ∙ e) k some
 
--- a record more is pending
-pub written-push : (table : Table) (last : Entry) → take (length (table.entries ++ last ∷ []) - (table.pending + 1)) (table.entries ++ last ∷ []) ≡ written table
-written-push table last =
-    let count : length (table.entries ++ last ∷ []) - (table.pending + 1) ≡ length table.entries - table.pending = omega (arith, length-append table.entries (last ∷ [])) in
-    ap (λ n. take n (table.entries ++ last ∷ [])) count ∙ take-append-le (length table.entries - table.pending) table.entries (last ∷ []) (omega arith)
-
 -- the variable data are the same where other parts of the table change
 pub blobbed-moved : (plan : Plan) (table new : Table) → new.var ≡ table.var → new.var_pages ≡ table.var_pages → fill new ≤ content_per_page plan → ((new.pending ≡ 0 → ⊥) → table.pending ≡ 0 → ⊥) → AreInPages plan table (written new) → IfSome table.var (BlobsOf plan new) →
     IsBlobbed plan table → IsBlobbed plan new
@@ -247,7 +242,7 @@ plain-erase plan table h = record {
     kept = h.rows.kept;
     kept_at_end = h.rows.kept_at_end;
     dirty_at_end = λ d. absurd (false≢true d);
-    not_both = λ both. not_dirty table.rows.torn both;
+    not_both = λ both. and_false table.rows.torn both;
   };
   kept = h.kept;
   few_pending = h.few_pending;
@@ -256,10 +251,6 @@ plain-erase plan table h = record {
   number = h.number;
   number_pending = h.number_pending;
 }
-  where
-    not_dirty : (t : Bool) → IsTrue (t && false) → ⊥
-    not_dirty true e = cc
-    not_dirty false e = cc
 
 -- the oldest page that is kept after a seal isn't older
 pub sealed-oldest : (shape : Shape) (count : ℕ) (ring : Ring) → length ring.counts ≤ ring.next → oldest ring ≤ oldest (sealed shape count ring)

@@ -2,6 +2,7 @@
 use Rattle.std.proofs.Common.{◌≡◌, ℕ, zero, suc, ◌+◌, ◌<◌, ◌≤◌, ◌⊎◌, inl, inr, Bool, true, false, cond, ◌==◌, Option, Some, None, List, [], ◌∷◌, ◌++◌, length, append-nil, refl, sym, ◌∙◌, ap, subst, arith}
 use Rattle.std.specs.Prelude.{IfSome, unwrap_or}
 use Rattle.std.proofs.lemmas.Bool.{cases_lt, ltb-true}
+use Rattle.fl_base.proofs.Tests.{not_zero}
 use Rattle.fl_find.specs.Pages.{rows_on}
 use Rattle.fl_model.specs.Record.{RowLayout}
 use Rattle.fl_model.specs.Row.{Row}
@@ -14,7 +15,6 @@ use Rattle.fl_parts.specs.declared.mount_fault.MountFault.{MountFault}
 use Rattle.fl_parts.specs.declared.mount_fault.MountFault.TheVariants.{BadPage, BadKeys}
 use Rattle.fl_parts.proofs.PageChecks.{uncommitted-rows}
 use Rattle.fl_parts.proofs.KeyRuns.{rises-on, last-up}
-use Rattle.fl_parts.proofs.SomeRows.{not_zero}
 
 -- the last point comes before a number, and its key is at most the last key
 abbrev IsBelow : Option (ℕ × ℕ) → ℕ → Option ℕ → Type 0

@@ -1,8 +1,8 @@
 -- Where the blobs of a table end, and the numbers of their ring where its pages are all void.
-use Rattle.std.proofs.Common.{◌≡◌, ℕ, zero, suc, ◌+◌, ◌-◌, ◌*◌, ◌<◌, ◌≤◌, ◌⊎◌, inl, inr, Bool, true, false, cond, ◌==◌, nat_lt, ◌||◌, Option, Some, None, List, [], ◌∷◌, length, max, map, refl, sym, ◌∙◌, ap, arith}
+use Rattle.std.proofs.Common.{◌≡◌, ℕ, zero, suc, ◌+◌, ◌-◌, ◌*◌, ◌<◌, ◌≤◌, ◌⊎◌, inl, inr, Bool, true, false, cond, ◌==◌, nat_lt, Option, Some, None, List, [], ◌∷◌, length, max, map, refl, sym, ◌∙◌, ap, arith}
 use Rattle.std.specs.Prelude.{option_map}
 use Rattle.std.specs.List.{slice_get, list_any, fold}
-use Rattle.std.proofs.lemmas.Bool.{lt-ltb, ne_eqb, false≢true}
+use Rattle.std.proofs.lemmas.Bool.{ne_eqb, false≢true}
 use Rattle.std.proofs.lemmas.Option.{none-some, same_Some}
 use Rattle.fl_model.specs.Agrees.{reach_of, BlobsOf}
 use Rattle.fl_model.specs.Mount.{renumber, renumbered, blob_end, least_alike}
@@ -10,6 +10,7 @@ use Rattle.fl_model.specs.Record.{Plan}
 use Rattle.fl_model.specs.Ring.{Ring, IsShape, oldest, sealed, erased}
 use Rattle.fl_model.specs.Table.{Table, Entry, VarRing, shape_of, with_ring, seal_page, blob_len}
 use Rattle.fl_model.proofs.StandingPages.{stands-not}
+use Rattle.fl_model.proofs.Lists.{slice_get-mapped, any-at}
 use Rattle.fl_parts.specs.Blobs.{AreIn, AreLed}
 use Rattle.fl_parts.proofs.VarFacts.{blobs-as, blobs-none, in-voided, led-voided, var-voided, numbered-sealed}
 
@@ -27,11 +28,6 @@ fold-each a (y ∷ ys) (suc i) x e = fold-each (max a y) ys i x e
 fold-most : (a n : ℕ) (xs : List ℕ) → a ≤ n → ((i x : ℕ) → slice_get xs i ≡ Some x → x ≤ n) → fold max a xs ≤ n
 fold-most a n [] le each = le
 fold-most a n (x ∷ xs) le each = fold-most (max a x) n xs (let k = each 0 x refl in omega (arith, le, k)) (λ i y e. each (suc i) y e)
-
-get-map : {A B : Type 0} (f : A → B) (xs : List A) (i : ℕ) (x : A) → slice_get xs i ≡ Some x → slice_get (map f xs) i ≡ Some (f x)
-get-map f [] i x e = cc
-get-map f (y ∷ ys) zero x e = ap (option_map f) e
-get-map f (y ∷ ys) (suc i) x e = get-map f ys i x e
 
 got-map : {A B : Type 0} (f : A → B) (xs : List A) (i : ℕ) (y : B) → slice_get (map f xs) i ≡ Some y → (x : A) × (slice_get xs i ≡ Some x) × (f x ≡ y)
 got-map f [] i y e = cc
@@ -52,7 +48,7 @@ has-end entry blob e some =
 
 pub blob-below : (table : Table) (i : ℕ) (entry : Entry) (blob : List ℕ) → slice_get table.entries i ≡ Some entry → entry.kept.blob ≡ Some blob → 0 < length blob → entry.page < blob_end table
 blob-below table i entry blob e k some =
-    let le = fold-each 0 (map end_of table.entries) i (end_of entry) (get-map end_of table.entries i entry e) in
+    let le = fold-each 0 (map end_of table.entries) i (end_of entry) (slice_get-mapped end_of table.entries i entry e) in
     omega (arith, le, has-end entry blob k some)
 
 -- where each blob begins before a page, so does their end
@@ -74,24 +70,11 @@ blob_end-most table n before = fold-most 0 n (map end_of table.entries) (omega a
 pub held-below : (plan : Plan) (ring : Ring) (table : Table) → AreLed plan ring table.entries → blob_end table ≤ ring.next
 held-below plan ring table led = blob_end-most table ring.next (λ i entry blob e k some. (led i entry blob e k some).0)
 
--- a ring with a committed page keeps its numbers
-pub any-one : (xs : List ℕ) (i : ℕ) → slice_get xs i ≡ Some 1 → list_any (nat_lt 0) xs ≡ true
-any-one [] i e = absurd (none-some 1 e)
-any-one (x ∷ xs) zero e = ap (λ (b : Bool). b || list_any (nat_lt 0) xs) (lt-ltb 0 x (omega (arith, same 1 e)))
-  where
-    same : (n : ℕ) → Some x ≡ Some n → x ≡ n
-    same n k = cc
-any-one (x ∷ xs) (suc i) e = right (nat_lt 0 x) (list_any (nat_lt 0) xs) (any-one xs i e)
-  where
-    right : (a b : Bool) → b ≡ true → (a || b) ≡ true
-    right true b k = refl
-    right false b k = k
-
 -- where all pages are void, they were given up
 old-void : (plan : Plan) (ring : Ring) (entry : Entry) (blob : List ℕ) → list_any (nat_lt 0) ring.counts ≡ false →
     (entry.page < oldest ring) ⊎ ((oldest ring ≤ entry.page) × (slice_get ring.counts (entry.page - oldest ring) ≡ Some 1) × (entry.page + reach_of plan entry blob < ring.next)) → entry.page < oldest ring
 old-void plan ring entry blob void (inl lt) = lt
-old-void plan ring entry blob void (inr w) = absurd (false≢true (sym void ∙ any-one ring.counts (entry.page - oldest ring) w.1))
+old-void plan ring entry blob void (inr w) = absurd (false≢true (sym void ∙ any-at (nat_lt 0) ring.counts (entry.page - oldest ring) 1 w.1 refl))
 
 pub held-old : (plan : Plan) (ring : Ring) (table : Table) → list_any (nat_lt 0) ring.counts ≡ false → AreIn plan ring table.entries → blob_end table ≤ oldest ring
 held-old plan ring table void inside = blob_end-most table (oldest ring) (λ i entry blob e k some. old-void plan ring entry blob void (inside i entry blob e k some))

@@ -9,7 +9,7 @@ use Rattle.fl_model.specs.Record.{Plan}
 use Rattle.fl_model.specs.Ring as model
 use Rattle.fl_model.specs.Ring.{given_up}
 use Rattle.fl_model.specs.Index.{IndexEntry}
-use Rattle.fl_model.specs.Table.{Table, Entry, DataRing, shape_of, with_ring, seal_page, lose, is_dirty}
+use Rattle.fl_model.specs.Table.{Table, Entry, DataRing, shape_of, seal_page, lose, is_dirty}
 use Rattle.fl_model.specs.Work.{Kind, Body, Mark, VoidMark, Erase, effect, Device}
 use Rattle.fl_model.specs.Within.{repair_within}
 use Rattle.fl_model.specs.Mount.{renumber, at_least_of}
@@ -20,12 +20,12 @@ use Rattle.fl_parts.proofs.MountKeeps.{loose-void, loose-erase, plain-void}
 use Rattle.fl_parts.proofs.Plain.{IsPlainTable, plain-erase}
 use Rattle.fl_ring.specs.Operations.{change, repair_kinds}
 use Rattle.fl_ring.specs.Numbers.{renumbered}
-use Rattle.fl_ring.specs.Ring.{RingState, voided, unerased, erased}
+use Rattle.fl_ring.specs.Ring.{RingState, voided, erased}
 use Rattle.fl_ring.specs.Sealing.{Performed}
+use Rattle.fl_ring.proofs.InTable.{of_ring, AreRepairs, erases-repair, repairs-front, repairs-come, repair-operations, TablePerformed, performed-lifts}
 use Rattle.fl_parts.proofs.States.{shape_in, state_of, state-count, page-some}
 use Rattle.fl_parts.proofs.VarFacts.{rest-of}
 use Rattle.fl_parts.proofs.Sealed.{state-voided, state-erased}
-use Rattle.fl_parts.proofs.RingInTable.{of_rows, TablePerformed, performed-lifts, AreErases}
 
 -- nothing of the table is in memory
 pub record IsIdle (table : Table) : Type 0 where
@@ -113,26 +113,11 @@ pub record IsHeld (Left : Type 0) (plan : Plan) (table : Table) : Type 0 where
   pub loose : IsLoose plan table
   pub plain : Left → IsPlainTable plan table
 
--- the repairs that are left
-abbrev pub RepairsCome : List Kind → Table → Type 0
-RepairsCome [] table = Unit {0}
-RepairsCome (VoidMark ∷ kinds) table = (table.rows.torn ≡ true) × AreErases kinds
-RepairsCome (Erase ∷ kinds) table = AreErases kinds
-RepairsCome (Body ∷ kinds) table = ⊥
-RepairsCome (Mark ∷ kinds) table = ⊥
-
 pub record IsRepairOf (Left : Type 0) (first : Table) (plan : Plan) (kinds : List Kind) (s : RingState) (table : Table) : Type 0 where
   pub state : s ≡ state_of plan (lose table)
   pub facts : IsHeld Left plan table
   pub repaired : IsRepaired first table
-  pub come : RepairsCome kinds table
-
-erases_come : (kinds : List Kind) (table : Table) → AreErases kinds → RepairsCome kinds table
-erases_come [] table h = tt
-erases_come (Erase ∷ kinds) table h = h
-erases_come (Body ∷ kinds) table h = absurd h
-erases_come (Mark ∷ kinds) table h = absurd h
-erases_come (VoidMark ∷ kinds) table h = absurd h
+  pub come : AreRepairs (table.rows.torn ≡ true) kinds
 
 not_dirty : (t d : Bool) → t ≡ true → (IsTrue (cond t d false) → ⊥) → d ≡ false
 not_dirty true true e h = absurd (h refl)
@@ -162,7 +147,7 @@ repair-along Left begin first plan shape VoidMark kinds s table r =
         var_pages = r.repaired.var_pages;
         left = λ i entry e. let k = rest-of (sum (given_up (shape_of plan DataRing) 0 table.rows)) table.entries i entry e in r.repaired.left k.0 entry k.1;
       };
-      come = erases_come kinds after r.come.1;
+      come = erases-repair (after.rows.torn ≡ true) kinds r.come.1;
     }
   where
     as_and : (t d : Bool) → cond t d false ≡ true → (t && d) ≡ true
@@ -179,45 +164,13 @@ repair-along Left begin first plan shape Erase kinds s table r = record {
     var_pages = r.repaired.var_pages;
     left = r.repaired.left;
   };
-  come = erases_come kinds (with_ring DataRing model.erased table) r.come;
+  come = erases-repair (table.rows.torn ≡ true) kinds r.come;
 }
 
--- what it is of a table's repairs
-erases_front : (front others : List Kind) → AreErases (front ++ others) → AreErases front
-erases_front [] others h = tt
-erases_front (Erase ∷ front) others h = erases_front front others h
-erases_front (Body ∷ front) others h = absurd h
-erases_front (Mark ∷ front) others h = absurd h
-erases_front (VoidMark ∷ front) others h = absurd h
-
-repairs_front : (front others : List Kind) (table : Table) → RepairsCome (front ++ others) table → RepairsCome front table
-repairs_front [] others table h = tt
-repairs_front (VoidMark ∷ front) others table h = (h.0, erases_front front others h.1)
-repairs_front (Erase ∷ front) others table h = erases_front front others h
-repairs_front (Body ∷ front) others table h = absurd h
-repairs_front (Mark ∷ front) others table h = absurd h
-
-repairs_come : (first : ℕ) (plan : Plan) (table : Table) → RepairsCome (repair_kinds (shape_in first plan) (state_of plan table)) table
-repairs_come first plan table = by_torn table.rows.torn refl (unerased (shape_in first plan) (state_of plan table)).dirty
-  where
-    by_torn : (t : Bool) → table.rows.torn ≡ t → (d : Bool) → RepairsCome ((cond t (VoidMark ∷ []) []) ++ (cond d (Erase ∷ []) [])) table
-    by_torn true e true = (e, tt)
-    by_torn true e false = (e, tt)
-    by_torn false e true = tt
-    by_torn false e false = tt
-
 pub repair-kinds : (first : ℕ) (plan : Plan) (table : Table) → model.IsShape (shape_of plan DataRing) → length table.rows.counts ≤ table.rows.next →
-    map of_rows (repair_kinds (shape_in first plan) (state_of plan table)) ≡ repair_within plan DataRing table
-repair-kinds first plan table shape known =
-    by_tests table.rows.torn (unerased (shape_in first plan) (state_of plan table)).dirty
-    ∙ ap (λ (d : Bool). (cond table.rows.torn ((DataRing, VoidMark) ∷ []) []) ++ (cond d ((DataRing, Erase) ∷ []) [])) (dirt table.rows.torn)
+    map (of_ring DataRing) (repair_kinds (shape_in first plan) (state_of plan table)) ≡ repair_within plan DataRing table
+repair-kinds first plan table shape known = repair-operations DataRing plan table (shape_in first plan) (state_of plan table) refl (λ b e. dirt b)
   where
-    by_tests : (t d : Bool) → map of_rows ((cond t (VoidMark ∷ []) []) ++ (cond d (Erase ∷ []) [])) ≡ (cond t ((DataRing, VoidMark) ∷ []) []) ++ (cond d ((DataRing, Erase) ∷ []) [])
-    by_tests true true = refl
-    by_tests true false = refl
-    by_tests false true = refl
-    by_tests false false = refl
-
     dirt : (t : Bool) → (cond t (voided (shape_in first plan) (state_of plan table)) (state_of plan table)).dirty ≡ is_dirty DataRing (cond t (seal_page plan DataRing 0 table) table)
     dirt true = ap (λ (s : RingState). s.dirty) (state-voided first plan table shape known)
     dirt false = refl
@@ -226,12 +179,13 @@ repair-kinds first plan table shape known =
 pub repair-lifts : (Left : Type 0) (first : ℕ) (plan : Plan) (table : Table) (rose : Bool) (front others : List Kind) (device : Device) (result : Result (Unit {0}) FlashFault) (new : FlashState) →
     model.IsShape (shape_of plan DataRing) → IsHeld Left plan table → IsIdle table → repair_kinds (shape_in first plan) (state_of plan table) ≡ front ++ others →
     (h : Performed (shape_in first plan) (change (shape_in first plan) []) rose front device (state_of plan table) result new) →
-    TablePerformed (IsHeld Left plan) (IsRepaired table) first plan (map of_rows front) table rose device result new h.now.state
+    TablePerformed (IsRepairOf Left table plan) plan (map (of_ring DataRing) front) table rose device result new h.now.state
 repair-lifts Left first plan table rose front others device result new shape facts idle split h =
-    performed-lifts (IsHeld Left plan) (IsRepaired table) first plan [] (IsRepairOf Left table plan) (repair-along Left table first plan shape) (λ kinds s t r. (r.state, r.facts, r.repaired)) rose front device (state_of plan table) table result new
+    performed-lifts (IsRepairOf Left table plan) (shape_in first plan) plan DataRing [] (repair-along Left table first plan shape) rose front device (state_of plan table) table result new
     (record {
       state = ap (state_of plan) (idle-lost table idle);
       facts = facts;
       repaired = record { idle = idle; index = refl; index_pages = refl; var = refl; var_pages = refl; left = λ i entry e. (i, e) };
-      come = repairs_front front others table (subst (λ (ks : List Kind). RepairsCome ks table) split (repairs_come first plan table));
+      come = repairs-front (table.rows.torn ≡ true) front others
+          (subst (λ (ks : List Kind). AreRepairs (table.rows.torn ≡ true) ks) split (repairs-come (table.rows.torn ≡ true) (shape_in first plan) (state_of plan table) (λ e. e)));
     }) h

@@ -20,8 +20,8 @@ use Rattle.fl_model.specs.Table.{pending_entries, lose}
 use Rattle.std.proofs.lemmas.List.{drop-take, take-take}
 use Rattle.std.proofs.lemmas.List.Sums.{sum_by-take-le}
 use Rattle.fl_model.specs.Image.{rows_at}
+use Rattle.fl_model.proofs.Lists.{sum_by-next}
 use Rattle.fl_parts.proofs.Pointed.{first-key}
-use Rattle.fl_parts.proofs.KeptPages.{sum-next}
 
 -- the row that was found has the key
 pub has-key : (rows : List Row) (key row : ℕ) → HasKey rows key row → option_map (λ (r : Row). r.key) (slice_get rows row) ≡ Some key
@@ -67,7 +67,7 @@ pub rows-lose : (table : model.Table) (i c : ℕ) → slice_get table.rows.count
 rows-lose table i c e counted =
     let s = sum (take i table.rows.counts) in
     let m = length table.entries - table.pending in
-    let next : sum (take (suc i) table.rows.counts) ≡ s + c = sum-next (λ (n : ℕ). n) table.rows.counts i c e in
+    let next : sum (take (suc i) table.rows.counts) ≡ s + c = sum_by-next (λ (n : ℕ). n) table.rows.counts i c e in
     let le : s + c ≤ m = omega (arith, next, sum_by-take-le (λ (n : ℕ). n) table.rows.counts (suc i), counted) in
     let split : s + (m - s) ≡ m = omega (arith, le) in
     ap (λ n. take c (drop s (take n table.entries))) (sym split) ∙ (ap (take c) (drop-take s (m - s) table.entries) ∙ take-take c (m - s) (drop s table.entries) (omega (arith, le)))

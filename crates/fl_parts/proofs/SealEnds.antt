@@ -1,14 +1,14 @@
 -- How a seal of the pending rows ends, by what it did to the ring.
-use Rattle.std.proofs.Common.{◌≡◌, ℕ, ◌+◌, ◌*◌, ◌%◌, ◌<◌, ◌≤◌, Bool, true, false, cond, ◌==◌, Some, Result, Ok, Err, List, [], length, drop, get_or, set, refl, sym, ◌∙◌, ap, subst, arith, IsOk, ◌++◌, ◌∷◌, length-append, length-drop}
+use Rattle.std.proofs.Common.{◌≡◌, ℕ, ◌+◌, ◌*◌, ◌%◌, ◌<◌, ◌≤◌, Bool, true, false, cond, ◌==◌, Some, Ok, Err, List, [], length, drop, get_or, set, refl, sym, ◌∙◌, ap, subst, arith, ◌++◌, ◌∷◌, length-append, length-drop, pos_of_ne-zero}
 use Rattle.std.specs.List.{slice_get}
+use Rattle.fl_base.proofs.Tests.{zero_either}
 use Rattle.fl_flash.specs.Flash.{FlashState, page_at}
 use Rattle.fl_flash.specs.declared.flash.FlashFault.{FlashFault}
-use Rattle.fl_flash.specs.declared.flash.FlashFault.TheVariants.{PowerLost, Media}
 use Rattle.fl_model.specs.Record.{Plan}
 use Rattle.fl_model.specs.Ring as model
 use Rattle.fl_model.specs.Layout.{bitmap_of}
 use Rattle.fl_model.specs.Table.{Table, DataRing, IndexRing, VarRing, shape_of, pending_entries, last_entry, seal_buffer, after_seal, lose}
-use Rattle.fl_model.specs.Work.{Device, PartEnd, Whole, CutIn, FailedIn, PartProgress}
+use Rattle.fl_model.specs.Work.{Device, PartEnd, Whole, PartProgress}
 use Rattle.fl_model.specs.Within.{seal_within, TablePerforms}
 use Rattle.fl_model.proofs.Sealed.{sealed-next, sealed-torn}
 use Rattle.fl_ring.specs.Ring.{OutsideStands, Shape, RingState, OnRing, oldest, place, sealed}
@@ -16,6 +16,7 @@ use Rattle.fl_frame.specs.Device.{SameDevice}
 use Rattle.fl_ring.specs.Operations.{change, seal_kinds}
 use Rattle.fl_ring.specs.Place.{next_of, oldest_of, StandsFor}
 use Rattle.fl_ring.specs.Sealing.{Performed}
+use Rattle.fl_ring.proofs.InTable.{TableAnswers, all-whole, answers-fault}
 use Rattle.fl_ring.specs.declared.ring.Ring.{Ring}
 use Rattle.fl_parts.proofs.ListsStay.{HoldsIndexed, indexed-same, index-stands}
 use Rattle.fl_parts.proofs.BlobTables.{HoldsVar}
@@ -24,7 +25,7 @@ use Rattle.fl_parts.proofs.Plain.{IsPlainTable}
 use Rattle.fl_parts.specs.Failing.{Breaks, FaultEnds}
 use Rattle.fl_parts.specs.Pages.{HoldsTable, KeptStand, bytes_in}
 use Rattle.fl_parts.proofs.TablePages.{plain-rests}
-use Rattle.fl_parts.proofs.RingInTable.{HoldsOthers, MakesBody, TableAnswers, seal-lifts, seal-whole}
+use Rattle.fl_parts.proofs.RingInTable.{HoldsOthers, MakesBody, seal-lifts, seal-whole}
 use Rattle.fl_parts.proofs.Memories.{none-pending, last-sealed, counts-sealed}
 use Rattle.fl_parts.proofs.Sealed.{state-sealed}
 use Rattle.fl_parts.proofs.KeptPagesStay.{ring-same}
@@ -32,29 +33,7 @@ use Rattle.fl_parts.proofs.States.{shape_in, state_of, state-oldest, HaveSize}
 
 -- the answer to a failed operation
 pub fault-ends : (e : PartEnd Table) (fault : FlashFault) (new : FlashState) → TableAnswers e (Err fault) new → FaultEnds e fault new
-fault-ends Whole fault new a = absurd (not_ok a.0)
-  where
-    not_ok : IsOk {T = Unit {0}} {E = FlashFault} (Err fault) → ⊥
-    not_ok e = cc
-fault-ends (CutIn before) fault new a = (is a.0, a.1)
-  where
-    is : ◌≡◌ {A = Result (Unit {0}) FlashFault} (Err fault) (Err PowerLost) → fault ≡ PowerLost
-    is e = cc
-fault-ends (FailedIn before) fault new a = (is a.0, a.1)
-  where
-    is : ◌≡◌ {A = Result (Unit {0}) FlashFault} (Err fault) (Err Media) → fault ≡ Media
-    is e = cc
-
-pub all-whole : (e : PartEnd Table) (u : Unit {0}) (new : FlashState) → TableAnswers e (Ok u) new → (e ≡ Whole) × (new.is_on ≡ true)
-all-whole Whole u new a = (refl, a.1)
-all-whole (CutIn before) u new a = absurd (not_err PowerLost a.0)
-  where
-    not_err : (fault : FlashFault) → ◌≡◌ {A = Result (Unit {0}) FlashFault} (Ok u) (Err fault) → ⊥
-    not_err fault e = cc
-all-whole (FailedIn before) u new a = absurd (not_err Media a.0)
-  where
-    not_err : (fault : FlashFault) → ◌≡◌ {A = Result (Unit {0}) FlashFault} (Ok u) (Err fault) → ⊥
-    not_err fault e = cc
+fault-ends e fault new a = answers-fault (λ (x : PartEnd Table). FaultEnds x fault new) fault new (λ before h. h) (λ before h. h) e a
 
 -- what a seal is told of its table
 pub record IsSealing (old : ℕ → List ℕ) (first : ℕ) (plan : Plan) (table : Table) (body : List ℕ) : Type 0 where
@@ -102,9 +81,6 @@ pub record IsSealed (first : ℕ) (plan : Plan) (table : Table) (rose : Bool) (d
   pub counts_are : (i count : ℕ) → slice_get (after_seal plan DataRing table).rows.counts i ≡ Some count →
       get_or (set counts (table.rows.next % (plan.data_blocks * plan.geometry.block)) table.pending) ((model.oldest (after_seal plan DataRing table).rows + i) % (plan.data_blocks * plan.geometry.block)) 0 ≡ count
 
-positive : (n : ℕ) → (n ≡ 0 → ⊥) → 0 < n
-positive n h = omega arith
-
 module _ (first : ℕ) (plan : Plan) (table : Table) (body : List ℕ) (rose : Bool) (device : Device) (new : FlashState) (old : ℕ → List ℕ) (is : IsSealing old first plan table body) (sizes : HaveSize first plan (page_at new))
     (outside : OutsideStands (shape_in first plan) old (page_at new)) where
   -- what the other rings hold stands
@@ -125,13 +101,13 @@ module _ (first : ℕ) (plan : Plan) (table : Table) (body : List ℕ) (rose : B
         did = l.did;
         answer = fault-ends l.now.end fault new l.answer;
         counts = l.counts;
-        rests = plain-rests new first plan l.now.state sizes is.large l.facts l.on (still_indexed l.now.state l.more) (still_var l.now.state l.more);
+        rests = plain-rests new first plan l.now.state sizes is.large l.is.facts (subst (OnRing (shape_in first plan) (page_at new)) l.is.state h.on) (still_indexed l.now.state l.is.others) (still_var l.now.state l.is.others);
       }
 
   -- the pages that are kept stand in each ring
   still-kept : KeepsAll (shape_in first plan) (state_of plan (lose table)) body old (page_at new) → KeptStand first plan table (after_seal plan DataRing table) old (page_at new)
   still-kept keeps =
-      let some : 0 < table.pending = positive table.pending is.makes.some in
+      let some : 0 < table.pending = pos_of_ne-zero is.makes.some in
       let at : oldest (sealed (shape_in first plan) (state_of plan (lose table)) body) ≡ model.oldest (after_seal plan DataRing table).rows =
       ap oldest (ap (sealed (shape_in first plan) (state_of plan (lose table))) is.makes.body_is ∙ state-sealed first plan table is.shape is.facts.rows.not_negative is.facts.kept.counted some)
       ∙ state-oldest plan (lose (seal_buffer plan DataRing table)) in
@@ -156,9 +132,9 @@ module _ (first : ℕ) (plan : Plan) (table : Table) (body : List ℕ) (rose : B
       let l = seal-lifts old first plan body table rose device (Ok u) new is.shape is.facts is.makes is.others h in
       let all = all-whole l.now.end u new l.answer in
       let whole = seal-whole plan table rose device l.now l.did all.0 in
-      let facts : IsPlainTable plan (after_seal plan DataRing table) = subst (λ (t : Table). IsPlainTable plan t) whole l.facts in
-      let left = l.left_is ∙ ap (λ (t : Table). state_of plan (lose t)) whole in
-      let some : 0 < table.pending = positive table.pending is.makes.some in
+      let facts : IsPlainTable plan (after_seal plan DataRing table) = subst (λ (t : Table). IsPlainTable plan t) whole l.is.facts in
+      let left = l.is.state ∙ ap (λ (t : Table). state_of plan (lose t)) whole in
+      let some : 0 < table.pending = pos_of_ne-zero is.makes.some in
       let none = none-pending plan table in
       record {
         now = l.now;
@@ -169,17 +145,13 @@ module _ (first : ℕ) (plan : Plan) (table : Table) (body : List ℕ) (rose : B
         facts = facts;
         untorn = sealed-torn (shape_of plan DataRing) table.pending table.rows;
         pages = (plain-rests new first plan (after_seal plan DataRing table) sizes is.large facts
-            (subst (λ (t : Table). OnRing (shape_in first plan) (page_at new) (state_of plan (lose t))) whole l.on)
-            (still_indexed (after_seal plan DataRing table) (subst (λ (t : Table). HoldsOthers old first plan t) whole l.more)) (still_var (after_seal plan DataRing table) (subst (λ (t : Table). HoldsOthers old first plan t) whole l.more))).pages;
+            (subst (OnRing (shape_in first plan) (page_at new)) left h.on)
+            (still_indexed (after_seal plan DataRing table) (subst (λ (t : Table). HoldsOthers old first plan t) whole l.is.others)) (still_var (after_seal plan DataRing table) (subst (λ (t : Table). HoldsOthers old first plan t) whole l.is.others))).pages;
         stand = still-kept keeps;
         next = stands.next ∙ ap (λ (s : RingState). s.next) left;
         oldest_is = stands.oldest ∙ (ap oldest left ∙ state-oldest plan (lose (after_seal plan DataRing table)));
         none = none;
-        no_bits = sym (ap (bitmap_of plan) none ∙ no_values (plan.bits == 0));
+        no_bits = sym (ap (bitmap_of plan) none ∙ zero_either (plan.bits == 0));
         last = sym (last-sealed plan table is.shape is.facts.kept.counted some);
         counts_are = counts-sealed plan table counts is.shape is.facts.rows room were;
       }
-    where
-      no_values : (b : Bool) → ◌≡◌ {A = ℕ} (cond b 0 0) 0
-      no_values true = refl
-      no_values false = refl

@@ -1,15 +1,14 @@
 -- What the operations of a seal and of a repair make of the data ring, as a list of bodies and as a table.
-use Rattle.std.proofs.Common.{◌≡◌, ℕ, ◌+◌, ◌-◌, ◌*◌, ◌%◌, ◌<◌, ◌≤◌, Bool, true, false, cond, ◌==◌, Option, Some, None, List, [], ◌∷◌, ◌++◌, length, take, drop, refl, sym, ◌∙◌, ap, arith, length-append, length-drop}
-use Rattle.std.proofs.lemmas.Bool.{ltb-true}
+use Rattle.std.proofs.Common.{◌≡◌, ℕ, ◌+◌, ◌-◌, ◌<◌, ◌≤◌, Bool, true, false, cond, Option, Some, None, List, [], ◌∷◌, ◌++◌, length, take, drop, refl, sym, ◌∙◌, ap, arith, length-append, length-drop}
 use Rattle.std.proofs.lemmas.List.{take_all}
-use Rattle.std.proofs.Math.Nat.{mul-le-mul_right}
 use Rattle.std.specs.List.{sum}
 use Rattle.fl_model.specs.Record.{Plan}
 use Rattle.fl_model.specs.Ring as model
 use Rattle.fl_model.specs.Table.{Table, Entry, DataRing, shape_of, with_ring, seal_buffer, seal_page, written, pending_entries, lose}
 use Rattle.fl_model.specs.Layout.{data_body}
 use Rattle.fl_model.proofs.Pages.{page_with, pages_from, pages-length, pages-push, pages-drop, pages-front}
-use Rattle.fl_model.proofs.Lists.{and_right, drop_none}
+use Rattle.fl_model.proofs.Lists.{drop_none}
+use Rattle.fl_model.proofs.Sealed.{full-long}
 use Rattle.fl_ring.specs.Ring.{RingState, is_due, is_due_at, appended, trimmed, sealed, voided, begun, erased}
 use Rattle.fl_parts.proofs.States.{shape_in, state_of, page-some}
 
@@ -21,13 +20,6 @@ ring_state plan ring entries = record {
   torn = ring.torn;
   dirty = ring.dirty;
 }
-
--- a full ring has kept more pages than a block has
-pub full_long : (shape : model.Shape) (ring : model.Ring) → model.IsShape shape → model.is_full shape ring ≡ true → shape.pages ≤ length ring.counts
-full_long shape ring s h =
-    let lt = ltb-true ((shape.blocks - 1) * shape.pages - 1) (length ring.counts) (and_right (ring.next % shape.pages == shape.pages - 1) _ h) in
-    let two : 2 * shape.pages ≤ (shape.blocks - 1) * shape.pages = mul-le-mul_right shape.pages (let e : 2 ≤ shape.blocks - 1 = omega (arith, s.blocks) in e) in
-    omega (arith, lt, two)
 
 module _ (first : ℕ) (plan : Plan) (ring : model.Ring) (entries : List Entry) (count : ℕ) (x : Option (List ℕ)) (shape : model.IsShape (shape_of plan DataRing)) (known : length ring.counts ≤ ring.next)
     (page : x ≡ page_with plan ring.next count (drop (sum ring.counts) entries)) where
@@ -66,7 +58,7 @@ module _ (first : ℕ) (plan : Plan) (ring : model.Ring) (entries : List Entry) 
           ≡ ring_state plan (cond b (record (model.extended count ring) { counts = drop plan.geometry.block (ring.counts ++ count ∷ []); dirty = true }) (model.extended count ring))
           (drop (sum (cond b (take plan.geometry.block (ring.counts ++ count ∷ [])) [])) entries)
       by_test true e =
-          let long = full_long (shape_of plan DataRing) (model.extended count ring) shape e in
+          let long : plan.geometry.block ≤ length (ring.counts ++ count ∷ []) = let two = full-long (shape_of plan DataRing) (model.extended count ring) shape e in omega (arith, two) in
           let old : model.oldest ring + plan.geometry.block ≡ ring.next + 1 - length (drop plan.geometry.block (ring.counts ++ count ∷ [])) =
           omega (arith, known, more, long, length-drop plan.geometry.block (ring.counts ++ count ∷ [])) in
           ap (λ (k : List (Option (List ℕ))). record { kept = k; next = ring.next + 1; torn = false; dirty = true })

@@ -1,6 +1,6 @@
 -- What is known of a data page before it is read, and what was read to know it.
 use Rattle.std.proofs.Common.{◌≡◌, inl, inr, ℕ, ◌+◌, ◌-◌, ◌^◌, ◌<◌, ◌≤◌, Bool, true, false, not, ◌==◌, nat_lt, cond, Option, Some, None, Result, Ok, Err, IfSome, IsTrue, List, [], ◌∷◌, sym, ◌∙◌, ap, subst, arith, refl, IfErr, ◌&&◌, ◌||◌, bit_and}
-use Rattle.std.proofs.lemmas.Bool.{cases_lt, eqb-true, lt-ltb, false_from_ne_true}
+use Rattle.std.proofs.lemmas.Bool.{cases_lt, lt-ltb, and_right}
 use Rattle.std.specs.List.{list_any, AllByRecursion}
 use Rattle.std.proofs.lemmas.Option.{none-some}
 use Rattle.fl_base.specs.declared.types.Span.{Span}
@@ -20,6 +20,7 @@ use Rattle.fl_mark.specs.declared.page_state.PageState.TheVariants.{Committed}
 use Rattle.fl_model.specs.Limits.{asks_values, waits, is_listed, is_indexed, mask_of}
 use Rattle.fl_page.specs.declared.fault.ReadFault.{ReadFault}
 use Rattle.std.proofs.Math.Nat.{mod-eq_of_lt}
+use Rattle.fl_base.proofs.Tests.{not_zero}
 use Rattle.fl_bitmap.specs.declared.buckets.Buckets.{Buckets}
 use Rattle.fl_index.specs.declared.page.Full.{Full}
 use Rattle.fl_model.specs.Layout.{bitmap_of, full_of}
@@ -97,19 +98,12 @@ mask-meets n = elim (cases_lt 0 n) [
   | inl some ↦ ap not (not_zero n some) ∙ sym (lt-ltb 0 n some)
   | inr none ↦ let z : n ≡ 0 = omega (arith, none) in ap (λ k. not (k == 0)) z ∙ sym (ap (nat_lt 0) z)
 ]
-  where
-    not_zero : (n : ℕ) → 0 < n → (n == 0) ≡ false
-    not_zero n some = false_from_ne_true (n == 0) (λ e. let z = eqb-true n 0 e in omega (arith, z, some))
 
 -- a page that isn't indexed is wanted
 pub shows-none : (plan : Plan) (table : model.Table) (span : Span) (top : Option ℕ) (number : ℕ) (entries : List model.Entry) → false ≡ is_indexed plan table number → ShowsPage plan table (Some span) top number entries (Ok Wanted)
 shows-none plan table span top number entries e =
-    sym (ap (λ b. cond (b && not (is_up_to top (first_key entries))) Beyond (cond (not (is_indexed plan table number) || nat_lt 0 (bit_and (bitmap_of plan entries) (mask_of plan span))) Wanted Missed)) (and-none plan.full_index (is_indexed plan table number) e)
+    sym (ap (λ b. cond (b && not (is_up_to top (first_key entries))) Beyond (cond (not (is_indexed plan table number) || nat_lt 0 (bit_and (bitmap_of plan entries) (mask_of plan span))) Wanted Missed)) (and_right plan.full_index (is_indexed plan table number) (sym e))
     ∙ ap (λ b. cond (not b || nat_lt 0 (bit_and (bitmap_of plan entries) (mask_of plan span))) Wanted Missed) (sym e))
-  where
-    and-none : (a b : Bool) → false ≡ b → (a && b) ≡ false
-    and-none true b e = sym e
-    and-none false b e = refl
 
 -- .. and without an index none is
 pub shows-unindexed : (bitmaps : Option BitmapIndex) (start : ℕ) (plan : Plan) (table : model.Table) (span : Span) (top : Option ℕ) (number : ℕ) (entries : List model.Entry) → ((index : BitmapIndex) → bitmaps ≡ Some index → ⊥) → ArePlanned bitmaps start plan → ShowsPage plan table (Some span) top number entries (Ok Wanted)

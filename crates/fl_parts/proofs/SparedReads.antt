@@ -1,5 +1,5 @@
 -- The reads of a mount, with that of the page that waits.
-use Rattle.std.proofs.Common.{◌≡◌, ℕ, ◌+◌, ◌-◌, ◌≤◌, Option, Some, None, Result, Ok, Err, ap, arith}
+use Rattle.std.proofs.Common.{◌≡◌, ℕ, ◌+◌, ◌≤◌, Option, Some, None, Result, Ok, Err, ap, arith}
 use Rattle.std.specs.Prelude.{IfOk}
 use Rattle.fl_flash.specs.Flash.{FlashState}
 use Rattle.fl_frame.specs.Reads.{OnlyReads}

@@ -1,26 +1,26 @@
 -- Where a flash stands for a table, the keys of its pages rise, and no check of a mount finds a fault.
-use Rattle.std.proofs.Common.{◌≡◌, ℕ, zero, suc, ◌+◌, ◌-◌, ◌<◌, ◌≤◌, ◌⊎◌, inl, inr, Bool, true, false, cond, ◌&&◌, ◌||◌, ◌==◌, nat_lt, max, Option, Some, None, List, [], ◌∷◌, ◌++◌, length, map, take, drop, refl, sym, ◌∙◌, ap, subst, arith}
+use Rattle.std.proofs.Common.{◌≡◌, ℕ, zero, suc, ◌+◌, ◌-◌, ◌<◌, ◌≤◌, ◌⊎◌, inl, inr, Bool, true, false, cond, ◌&&◌, ◌||◌, ◌==◌, nat_lt, max, Option, Some, None, List, [], ◌∷◌, ◌++◌, length, map, take, drop, refl, sym, ◌∙◌, ap, subst, arith, append-nil}
 use Rattle.std.specs.Prelude.{unwrap_or, not}
 use Rattle.std.specs.Option.{is_none}
 use Rattle.std.specs.List.{slice_get, sum}
 use Rattle.std.proofs.lemmas.Bool.{cases_lt, lt-ltb}
 use Rattle.std.proofs.lemmas.List.{take_all}
+use Rattle.std.proofs.Math.Bool.{or-true}
+use Rattle.fl_base.proofs.Tests.{not_zero}
 use Rattle.fl_find.specs.Pages.{rows_on}
 use Rattle.fl_model.specs.Agrees.{rows_at}
 use Rattle.fl_model.specs.Index.{Full}
 use Rattle.fl_model.specs.Limits.{numbers_from}
 use Rattle.fl_model.specs.Entry.{first_key}
 use Rattle.fl_model.specs.Table.{Table, first_of}
-use Rattle.fl_model.proofs.Lists.{slice_get-some, slice_get-short}
+use Rattle.fl_model.proofs.Lists.{slice_get-some, slice_get-short, sum_by-next}
 use Rattle.fl_parts.specs.ByEntries.{Come, entry, has_rows, are_void, is_read, facts_on, known_after, read_fault, entry_fault, page_check, first_some, index_check, checks_from, seen_before, mount_fault}
 use Rattle.fl_parts.specs.Reading.{last_in}
 use Rattle.fl_parts.specs.declared.mount_fault.MountFault.{MountFault}
 use Rattle.fl_parts.specs.declared.mount_fault.MountFault.TheVariants.{BadKeys}
 use Rattle.fl_parts.proofs.KeyOrder.{key_before, rising}
 use Rattle.fl_parts.proofs.PageChecks.{is-void, no_both}
-use Rattle.fl_parts.proofs.KeptPages.{sum-next}
 use Rattle.fl_parts.proofs.StandingMount.{IsOf, IsPageOf, facts-of, rows-of, count-of, index-fine, AtMost, at-most, AreBehind, are-behind}
-use Rattle.fl_parts.proofs.SomeRows.{not_zero}
 
 module _ (t : Come) (table : Table) (is : IsOf t table) where
   -- the key before the n-th page
@@ -33,7 +33,7 @@ module _ (t : Come) (table : Table) (is : IsOf t table) where
   page-behind n c e h =
       let s = sum (take n table.rows.counts) in
       let up = rising table.entries is.ascending (t.oldest + n) s (drop s table.entries) refl c in
-      let more : sum (take (suc n) table.rows.counts) ≡ sum (take n table.rows.counts) + c = sum-next (λ (m : ℕ). m) table.rows.counts n c e in
+      let more : sum (take (suc n) table.rows.counts) ≡ sum (take n table.rows.counts) + c = sum_by-next (λ (m : ℕ). m) table.rows.counts n c e in
       are-behind (t.oldest + n) (known_after t n) (key_before table.entries s) (key_before table.entries (sum (take (suc n) table.rows.counts))) (rows_at table n c) h up.0
       (up.1 ∙ ap (key_before table.entries) (omega (arith, (is.rows n c e).many, more)))
 
@@ -56,11 +56,7 @@ module _ (t : Come) (table : Table) (is : IsOf t table) where
       let void : are_void t (t.oldest + n + 1) (t.oldest + t.pages - (t.oldest + n + 1)) ≡ true =
       ap (λ k. are_void t k (t.oldest + t.pages - k)) (let k : t.oldest + n + 1 ≡ t.oldest + suc n = omega arith in k)
       ∙ ends-void (suc n) (t.oldest + t.pages - (t.oldest + suc n)) h (omega (arith, lt, is.pages)) in
-      ap (λ b. is_none (entry t (t.oldest + n)) || b) (ap (λ b. b && are_void t (t.oldest + n + 1) (t.oldest + t.pages - (t.oldest + n + 1))) rows ∙ void) ∙ or_true (is_none (entry t (t.oldest + n)))
-    where
-      or_true : (b : Bool) → (b || true) ≡ true
-      or_true true = refl
-      or_true false = refl
+      ap (λ b. is_none (entry t (t.oldest + n)) || b) (ap (λ b. b && are_void t (t.oldest + n + 1) (t.oldest + t.pages - (t.oldest + n + 1))) rows ∙ void) ∙ or-true (is_none (entry t (t.oldest + n)))
 
   -- the greatest key known after n pages is no greater than the last key of their rows, and it is that where no later page has rows
   pub record IsKnown (n : ℕ) : Type 0 where
@@ -71,7 +67,7 @@ module _ (t : Come) (table : Table) (is : IsOf t table) where
   known-next n c e h = by_count (cases_lt 0 c)
     where
       more : sum (take (suc n) table.rows.counts) ≡ sum (take n table.rows.counts) + c
-      more = sum-next (λ (m : ℕ). m) table.rows.counts n c e
+      more = sum_by-next (λ (m : ℕ). m) table.rows.counts n c e
 
       by_count : (0 < c) ⊎ (c ≤ 0) → IsKnown (suc n)
       by_count (inr none) =
@@ -161,11 +157,7 @@ module _ (t : Come) (table : Table) (is : IsOf t table) where
   checks-fine k done zero all le = last (t.pages - done) (omega (arith, le))
     where
       last : (q : ℕ) → done + q ≤ t.pages → first_some (map (page_check t) (numbers_from done q)) ≡ None
-      last q le = ap first_some (sym (append_none (map (page_check t) (numbers_from done q)))) ∙ pages-fine done q le [] refl
-        where
-          append_none : (xs : List (Option MountFault)) → xs ++ [] ≡ xs
-          append_none [] = refl
-          append_none (x ∷ xs) = ap (λ (ys : List (Option MountFault)). x ∷ ys) (append_none xs)
+      last q le = ap first_some (sym (append-nil (map (page_check t) (numbers_from done q)))) ∙ pages-fine done q le [] refl
   checks-fine k done (suc left) all le =
       let seen : max done (seen_before t k) ≤ t.pages = omega (arith, le) in
       pages-fine done (max done (seen_before t k) - done) (omega (arith, seen)) (index_check t k ∷ checks_from t (k + 1) (max done (seen_before t k)) left)

@@ -1,5 +1,5 @@
 -- What a mount comes to where a flash stands for a table: nothing is wrong, and it knows of each page what its rows tell.
-use Rattle.std.proofs.Common.{◌≡◌, ℕ, zero, suc, ◌+◌, ◌-◌, ◌<◌, ◌≤◌, ◌⊎◌, inl, inr, Bool, true, false, cond, ◌&&◌, nat_le, nat_lt, Option, Some, None, List, [], ◌∷◌, length, map, refl, sym, ◌∙◌, ap, subst, arith}
+use Rattle.std.proofs.Common.{◌≡◌, ℕ, zero, suc, ◌+◌, ◌-◌, ◌<◌, ◌≤◌, ◌⊎◌, inl, inr, Bool, true, false, cond, nat_lt, Option, Some, None, List, [], ◌∷◌, length, map, refl, sym, ◌∙◌, ap, subst, arith}
 use Rattle.std.specs.Prelude.{option_map, unwrap_or}
 use Rattle.std.specs.List.{slice_get, sum}
 use Rattle.std.proofs.lemmas.Bool.{cases_lt, lt-ltb, ltb-true, leb-true, and_parts}
@@ -10,20 +10,18 @@ use Rattle.fl_find.specs.Pages as pages
 use Rattle.fl_index.specs.Page.{page_first}
 use Rattle.fl_model.specs.Agrees.{rows_at}
 use Rattle.fl_model.specs.Index.{Full, full_of}
-use Rattle.fl_model.specs.Limits.{numbers_from}
 use Rattle.fl_model.specs.Entry.{first_key}
 use Rattle.fl_model.specs.Ring as rings
 use Rattle.fl_model.specs.Row.{Row, stored_row}
-use Rattle.fl_model.specs.Table.{Table, Entry, first_of}
+use Rattle.fl_model.specs.Table.{Table, Entry}
 use Rattle.fl_model.proofs.Lists.{slice_get-some}
 use Rattle.fl_model.specs.BlobEnds.{blobs_end}
 use Rattle.fl_model.proofs.BlobEnds.{ends-of}
 use Rattle.fl_page.specs.Page.{has_form}
-use Rattle.fl_parts.specs.ByEntries.{Come, entry, index_page, is_committed, is_fit, is_good, lists, listing_among, told_at, has_rows, is_read, by_rows, by_page, facts_on, no_rows, first_some, count_fault, index_check}
+use Rattle.fl_parts.specs.ByEntries.{Come, entry, index_page, is_committed, is_fit, is_good, lists, listing_among, told_at, has_rows, is_read, by_rows, by_page, facts_on, no_rows, count_fault, index_check}
 use Rattle.fl_parts.specs.Reading.{rises, last_in, keys_fault}
-use Rattle.fl_parts.specs.declared.mount_fault.MountFault.{MountFault}
-use Rattle.fl_parts.specs.declared.mount_fault.MountFault.TheVariants.{BadKeys, BadEntry}
-use Rattle.fl_parts.proofs.PageChecks.{unlisted-read, no_both}
+use Rattle.fl_parts.specs.declared.mount_fault.MountFault.TheVariants.{BadKeys}
+use Rattle.fl_parts.proofs.PageChecks.{unlisted-read, no_both, count-fine, counts-none}
 use Rattle.fl_parts.proofs.KeyRuns.{rises-on, last-up}
 
 -- a kept data page with these rows, as it stands on a flash
@@ -146,28 +144,14 @@ module _ (t : Come) (table : Table) (is : IsOf t table) where
           omega (arith, count, is.few n c here)
 
       one : is_committed (index_page t k) ≡ true → (j : ℕ) → j < t.per_page → count_fault t k j ≡ None
-      one e j less = by_test ((nat_le t.oldest (page_first (index_page t k) + j) && nat_lt (page_first (index_page t k) + j) (t.oldest + t.pages)) && nat_lt t.most (told_at t (page_first (index_page t k) + j) k).count) refl
-        where
-          by_test : (b : Bool) → ((nat_le t.oldest (page_first (index_page t k) + j) && nat_lt (page_first (index_page t k) + j) (t.oldest + t.pages)) && nat_lt t.most (told_at t (page_first (index_page t k) + j) k).count) ≡ b →
-              cond b (Some (BadEntry (page_first (index_page t k) + j) (told_at t (page_first (index_page t k) + j) k).count t.most)) None ≡ None
-          by_test false h = refl
-          by_test true h =
-              let a = and_parts _ _ h in
-              let b = and_parts _ _ a.0 in
-              let low = leb-true t.oldest (page_first (index_page t k) + j) b.0 in
-              let high = ltb-true (page_first (index_page t k) + j) (t.oldest + t.pages) b.1 in
-              let above = ltb-true t.most (told_at t (page_first (index_page t k) + j) k).count a.1 in
-              let n = page_first (index_page t k) + j - t.oldest in
-              let c = slice_get-some table.rows.counts n (omega (arith, low, high, is.pages)) in
-              absurd (omega (arith, above, kept_count j n c.0 e less (omega (arith, low)) c.1))
-
-      all_none : is_committed (index_page t k) ≡ true → (a q : ℕ) → a + q ≤ t.per_page → first_some (map (count_fault t k) (numbers_from a q)) ≡ None
-      all_none e a zero le = refl
-      all_none e a (suc q) le = ap (λ (o : Option MountFault). first_of o (first_some (map (count_fault t k) (numbers_from (a + 1) q)))) (one e a (omega (arith, le))) ∙ all_none e (a + 1) q (omega (arith, le))
+      one e j less = count-fine t k j (λ low high above.
+          let n = page_first (index_page t k) + j - t.oldest in
+          let c = slice_get-some table.rows.counts n (omega (arith, low, high, is.pages)) in
+          omega (arith, above, kept_count j n c.0 e less (omega (arith, low)) c.1))
 
       by_state : (b : Bool) → is_committed (index_page t k) ≡ b → index_check t k ≡ None
       by_state false e = rw (e) refl
-      by_state true e = let page = is.index k lt e in rw (e, page.fit) (all_none e 0 t.per_page (omega arith))
+      by_state true e = let page = is.index k lt e in rw (e, page.fit) (counts-none t k (one e) 0 t.per_page (omega arith))
 
 -- ---- the keys
 

@@ -1,13 +1,13 @@
 -- Where a flash stands for a table, the totals of a mount are those of the table, and it reads few of its pages.
-use Rattle.std.proofs.Common.{◌≡◌, ℕ, zero, suc, ◌+◌, ◌<◌, ◌≤◌, Bool, true, false, cond, ◌==◌, max, Some, List, [], ◌∷◌, ◌++◌, length, map, take, drop, refl, sym, ◌∙◌, ap, arith}
+use Rattle.std.proofs.Common.{◌≡◌, ℕ, zero, suc, ◌+◌, ◌<◌, ◌≤◌, Bool, true, cond, ◌==◌, max, Some, List, [], ◌∷◌, ◌++◌, length, map, take, drop, refl, sym, ◌∙◌, ap, arith}
 use Rattle.std.specs.Prelude.{if◌then◌else◌}
 use Rattle.std.specs.Option.{is_none}
 use Rattle.std.specs.List.{slice_get, sum, count_by}
 use Rattle.std.proofs.Math.Dec.{eqb-suc-zero}
 use Rattle.std.proofs.Math.Seq.{take-add}
-use Rattle.std.proofs.lemmas.List.{take_all, map-append, length-take-le}
+use Rattle.std.proofs.lemmas.List.{take_all, length-take-le}
 use Rattle.std.proofs.lemmas.List.Sums.{sum_by-cons}
-use Rattle.std.proofs.lemmas.Option.{none-some}
+use Rattle.fl_base.proofs.Tests.{one_fewer}
 use Rattle.fl_find.proofs.Firsts.{points_from}
 use Rattle.fl_find.proofs.Points.{points-append}
 use Rattle.fl_model.specs.Agrees.{rows_at}
@@ -15,14 +15,11 @@ use Rattle.fl_model.specs.Index.{Full}
 use Rattle.fl_model.specs.Limits.{numbers_from}
 use Rattle.fl_model.specs.Entry.{first_key, end_of_blobs}
 use Rattle.fl_model.specs.Mount.{blob_end}
-use Rattle.fl_model.specs.Row.{stored_row}
 use Rattle.fl_model.specs.Spline.{pages_from, page_key, points_of as model_points, voids_of as model_voids}
 use Rattle.fl_model.specs.Table.{Table, Entry}
-use Rattle.fl_model.proofs.Lists.{slice_get-some, slice_get-short, take_none}
-use Rattle.fl_model.specs.BlobEnds.{blobs_end}
-use Rattle.fl_model.proofs.BlobEnds.{ends-append, ends-max, ends-of}
+use Rattle.fl_model.proofs.Lists.{slice_get-some, slice_get-short, take_none, take-next, sum_by-next}
+use Rattle.fl_model.proofs.FullIndex.{blobs-append}
 use Rattle.fl_parts.specs.ByEntries.{Come, entry, facts_on, rows_of, voids_of, points_of, end_of, unlisted_of}
-use Rattle.fl_parts.proofs.KeptPages.{sum-next}
 use Rattle.fl_parts.proofs.StandingMount.{IsOf, facts-of, count-of}
 
 -- the point of one page
@@ -33,20 +30,6 @@ one-point m (suc c) [] h = absurd (omega (arith, h))
 one-point m (suc c) (x ∷ entries) h =
     ap (λ (b : Bool). map (λ (page : ℕ × List Entry). (page_key page, page.0)) (if b then pages_from (m + 1) [] (x ∷ entries) else (m, take (suc c) (x ∷ entries)) ∷ pages_from (m + 1) [] (drop (suc c) (x ∷ entries)))) (eqb-suc-zero c)
     ∙ sym (ap (λ (b : Bool). cond b [] ((first_key (take (suc c) (x ∷ entries)), m) ∷ [])) (eqb-suc-zero c))
-
-take-next : (xs : List ℕ) (n x : ℕ) → slice_get xs n ≡ Some x → take (suc n) xs ≡ take n xs ++ x ∷ []
-take-next [] n x e = absurd (none-some x e)
-take-next (y ∷ ys) zero x e = let same : y ≡ x = cc in ap (λ (l : List ℕ). y ∷ l) (take_none ys) ∙ ap (λ z. z ∷ []) same
-take-next (y ∷ ys) (suc n) x e = ap (λ (l : List ℕ). y ∷ l) (take-next ys n x e)
-
--- the blobs of some records and of others behind them
-blobs-append : (entries others : List Entry) → end_of_blobs (entries ++ others) ≡ max (end_of_blobs entries) (end_of_blobs others)
-blobs-append entries others =
-    sym (ends-of (entries ++ others))
-    ∙ (ap (blobs_end 0) (map-append stored_row entries others)
-    ∙ (ends-append 0 (map stored_row entries) (map stored_row others)
-    ∙ (ends-max (blobs_end 0 (map stored_row entries)) (map stored_row others)
-    ∙ (ap (λ n. max n (blobs_end 0 (map stored_row others))) (ends-of entries) ∙ ap (max (end_of_blobs entries)) (ends-of others)))))
 
 -- a test counts as one or none
 abbrev bit : Bool → ℕ
@@ -73,11 +56,7 @@ pub unlisted-few : (p q : ℕ → Bool) (first n : ℕ) → ((i : ℕ) → i < n
 unlisted-few p q first zero h = omega arith
 unlisted-few p q first (suc n) h =
     let before = unlisted-few p q first n (λ i lt. h i (omega (arith, lt))) in
-    omega (arith, before, count-next p first n, count-next q first n, by_test (p (first + n)) (q (first + n)) (h n (omega arith)))
-  where
-    by_test : (a b : Bool) → (a ≡ true → b ≡ true) → cond a 1 0 ≤ cond b 1 0
-    by_test false b h = omega arith
-    by_test true b h = let e = h refl in omega (arith, ap bit e)
+    omega (arith, before, count-next p first n, count-next q first n, one_fewer (p (first + n)) (q (first + n)) (h n (omega arith)))
 
 -- ---- the totals
 
@@ -94,12 +73,8 @@ module _ (t : Come) (table : Table) (is : IsOf t table) where
         rows = sym (ap sum (take_none table.rows.counts));
         voids = sym (ap (count_by (λ (count : ℕ). count == 0)) (take_none table.rows.counts));
         points = sym (ap (λ (cs : List ℕ). points_from t.oldest cs table.entries) (take_none table.rows.counts));
-        end = sym (ap (λ (cs : List ℕ). end_of_blobs (take (sum cs) table.entries)) (take_none table.rows.counts) ∙ ap end_of_blobs (no_entries table.entries));
+        end = sym (ap (λ (cs : List ℕ). end_of_blobs (take (sum cs) table.entries)) (take_none table.rows.counts) ∙ ap end_of_blobs (take_none table.entries));
       }
-    where
-      no_entries : (es : List Entry) → take 0 es ≡ []
-      no_entries [] = refl
-      no_entries (e ∷ es) = refl
   are-totals (suc n) le =
       let some = slice_get-some table.rows.counts n (omega (arith, le, is.pages)) in
       next n some.0 some.1 (are-totals n (omega (arith, le)))
@@ -107,14 +82,14 @@ module _ (t : Come) (table : Table) (is : IsOf t table) where
       next : (n c : ℕ) → slice_get table.rows.counts n ≡ Some c → AreTotals n → AreTotals (suc n)
       next n c e h =
           let s = sum (take n table.rows.counts) in
-          let more : sum (take (suc n) table.rows.counts) ≡ s + c = sum-next (λ (m : ℕ). m) table.rows.counts n c e in
+          let more : sum (take (suc n) table.rows.counts) ≡ s + c = sum_by-next (λ (m : ℕ). m) table.rows.counts n c e in
           let facts = facts-of t table is n c e in
           let count = count-of t table is n c e in
           let many = (is.rows n c e).many in
           let len : length (take n table.rows.counts) ≡ n = length-take-le n table.rows.counts (omega (arith, slice_get-short table.rows.counts n c e)) in
           record {
             rows = omega (arith, h.rows, count, more);
-            voids = ap (λ k. voids_of (facts_on t) t.oldest n + cond (k == 0) 1 0) count ∙ (ap (λ k. k + cond (c == 0) 1 0) h.voids ∙ sym (sum-next (λ (m : ℕ). cond (m == 0) 1 0) table.rows.counts n c e));
+            voids = ap (λ k. voids_of (facts_on t) t.oldest n + cond (k == 0) 1 0) count ∙ (ap (λ k. k + cond (c == 0) 1 0) h.voids ∙ sym (sum_by-next (λ (m : ℕ). cond (m == 0) 1 0) table.rows.counts n c e));
             points = ap (λ (f : Full). points_of (facts_on t) t.oldest n ++ cond (f.count == 0) [] ((f.first_key, t.oldest + n) ∷ [])) facts
                 ∙ (ap (λ k. points_of (facts_on t) t.oldest n ++ cond (k == 0) [] ((first_key (rows_at table n c), t.oldest + n) ∷ [])) many
                 ∙ (ap (λ (l : List (ℕ × ℕ)). l ++ cond (c == 0) [] ((first_key (rows_at table n c), t.oldest + n) ∷ [])) h.points

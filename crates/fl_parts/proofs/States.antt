@@ -1,7 +1,6 @@
 -- The data ring of a table as a list of bodies, and the same pages in the words of the model's image.
-use Rattle.std.proofs.Common.{◌≡◌, ℕ, zero, suc, ◌+◌, ◌-◌, ◌*◌, ◌%◌, ◌<◌, ◌≤◌, Bool, true, false, cond, ◌==◌, Option, Some, None, List, ◌++◌, length, take, drop, replicate, get_or, refl, sym, ◌∙◌, ap, subst, arith, ◌⊎◌, inl, inr, length-append, MatchBool}
-use Rattle.std.proofs.lemmas.Bool.{cases_lt, cases_Bool, eqb-true as is_same, false≢true, and_from, and_parts}
-use Rattle.std.proofs.lemmas.Nat.Gcd.{mod-eq-zero_of_dvd, dvd_of_mod-eq-zero}
+use Rattle.std.proofs.Common.{◌≡◌, ℕ, zero, suc, ◌+◌, ◌-◌, ◌*◌, ◌<◌, ◌≤◌, Bool, true, false, cond, ◌==◌, Option, Some, None, List, ◌++◌, length, take, drop, replicate, get_or, refl, sym, ◌∙◌, ap, subst, arith, ◌⊎◌, inl, inr, length-append, MatchBool}
+use Rattle.std.proofs.lemmas.Bool.{cases_lt, cases_Bool, eqb-true as is_same, false≢true}
 use Rattle.std.specs.List.{slice_get, sum}
 use Rattle.fl_flash.specs.Flash.{blank}
 use Rattle.fl_base.proofs.OneByte.{all_same}
@@ -17,6 +16,7 @@ use Rattle.fl_model.specs.Image.{IsRingImage, HoldsRows, rows_at}
 use Rattle.fl_model.proofs.Lists.{slice_get-some, slice_get-short}
 use Rattle.fl_model.proofs.Pages.{page_with, pages_from, pages-length, pages-at}
 use Rattle.fl_ring.specs.Ring.{Shape, RingState, IsRing, OnRing, HoldsKept, place, count, oldest, committed_end}
+use Rattle.fl_ring.proofs.Counts.{ring_from, ring_back}
 use Rattle.fl_ring.proofs.Images.{committed_is}
 use Rattle.fl_parts.specs.Pages.{bytes_in}
 
@@ -45,30 +45,10 @@ state-oldest plan table = ap (λ n. table.rows.next - n) (state-count plan table
 
 -- the facts of a ring
 pub ring-from : (first : ℕ) (plan : Plan) (table : Table) → model.IsRing (shape_of plan DataRing) table.rows → IsRing (shape_in first plan) (state_of plan table)
-ring-from first plan table h =
-    let len = state-count plan table in
-    record {
-      not_negative = omega (arith, len, h.not_negative);
-      whole_blocks = ap (λ n. n % plan.geometry.block) (state-oldest plan table) ∙ mod-eq-zero_of_dvd plan.geometry.block h.whole_blocks;
-      whole_rounds = λ few. ap (λ n. n % (plan.data_blocks * plan.geometry.block)) (state-oldest plan table) ∙ mod-eq-zero_of_dvd (plan.data_blocks * plan.geometry.block) (h.whole_rounds (omega (arith, len, few)));
-      most = omega (arith, len, h.kept);
-      most_ahead = λ e. let k = h.kept_at_end e in omega (arith, len, k);
-      dirty_when = λ d. let k = h.dirty_at_end d in (k.0, omega (arith, len, k.1));
-      not_both = λ t d. h.not_both (and_from table.rows.torn table.rows.dirty t d);
-    }
+ring-from first plan table h = ring_from (shape_in first plan) (state_of plan table) table.rows.counts (sym (state-count plan table)) h
 
 pub ring-back : (first : ℕ) (plan : Plan) (table : Table) → IsRing (shape_in first plan) (state_of plan table) → model.IsRing (shape_of plan DataRing) table.rows
-ring-back first plan table h =
-    let len = state-count plan table in
-    record {
-      not_negative = omega (arith, len, h.not_negative);
-      whole_blocks = dvd_of_mod-eq-zero plan.geometry.block (sym (ap (λ n. n % plan.geometry.block) (state-oldest plan table)) ∙ h.whole_blocks);
-      whole_rounds = λ few. dvd_of_mod-eq-zero (plan.data_blocks * plan.geometry.block) (sym (ap (λ n. n % (plan.data_blocks * plan.geometry.block)) (state-oldest plan table)) ∙ h.whole_rounds (omega (arith, len, few)));
-      kept = omega (arith, len, h.most);
-      kept_at_end = λ e. let k = h.most_ahead e in omega (arith, len, k);
-      dirty_at_end = λ d. let k = h.dirty_when d in (k.0, omega (arith, len, k.1));
-      not_both = λ both. let p = and_parts table.rows.torn table.rows.dirty both in h.not_both p.0 p.1;
-    }
+ring-back first plan table h = ring_back (shape_in first plan) (state_of plan table) table.rows.counts (sym (state-count plan table)) h
 
 -- blank bytes
 pub blank-bytes : (page : List ℕ) (size : ℕ) → length page ≡ size → is_blank page ≡ true → page ≡ blank size

@@ -1,8 +1,10 @@
 -- One step more of a mount: a data page, or an index page.
-use Rattle.std.proofs.Common.{◌≡◌, ℕ, suc, ◌+◌, ◌-◌, ◌%◌, ◌<◌, ◌≤◌, inl, inr, Bool, true, false, cond, ◌&&◌, ◌||◌, ◌==◌, max, Option, Some, None, List, length, set, refl, sym, ◌∙◌, ap, subst, arith}
-use Rattle.std.specs.Prelude.{unwrap_or, not, slice_index, slice_set}
+use Rattle.std.proofs.Common.{◌≡◌, ℕ, suc, ◌+◌, ◌-◌, ◌%◌, ◌<◌, ◌≤◌, inl, inr, true, false, cond, ◌&&◌, ◌||◌, ◌==◌, max, Option, Some, None, List, length, set, refl, sym, ◌∙◌, ap, subst, arith}
+use Rattle.std.specs.Prelude.{unwrap_or, not, slice_set}
 use Rattle.std.specs.Option.{is_none}
 use Rattle.std.proofs.lemmas.Bool.{cases_lt}
+use Rattle.std.proofs.Math.Bool.{or-true}
+use Rattle.fl_base.proofs.Tests.{not_zero}
 use Rattle.fl_find.specs.Pages.{rows_on}
 use Rattle.fl_index.specs.Page.{full_view}
 use Rattle.fl_model.specs.Layout.{Full}
@@ -17,8 +19,7 @@ use Rattle.fl_parts.specs.declared.known.Known.{Known}
 use Rattle.fl_parts.specs.declared.known.Listed.{Listed}
 use Rattle.fl_parts.proofs.Aside.{fault_of, has-rows}
 use Rattle.fl_parts.proofs.PageChecks.{is-void, unlisted-read, left-none}
-use Rattle.fl_parts.proofs.NextPage.{void-run, end-split, noted-next, noted-here, noted-other}
-use Rattle.fl_parts.proofs.SomeRows.{not_zero}
+use Rattle.fl_parts.proofs.NextPage.{void-run, end-split, noted-next, noted-other, noted-set}
 
 -- ---- a page that is counted: its check found nothing, and these are its count of rows and its last key
 
@@ -190,11 +191,7 @@ module _ (t : Come) (known : Known) (counts : List ℕ) where
         let void : are_void t (t.oldest + h.m + 1) (t.oldest + t.pages - (t.oldest + h.m + 1)) ≡ true =
         ap (λ k. are_void t k (t.oldest + t.pages - k)) (let e : t.oldest + h.m + 1 ≡ t.oldest + suc h.m = omega arith in e)
         ∙ (ap (are_void t (t.oldest + suc h.m)) (let e : t.oldest + t.pages - (t.oldest + suc h.m) ≡ t.pages - suc h.m = omega (arith, h.within) in e) ∙ h.newest) in
-        ap (λ b. is_none (entry t (t.oldest + h.m)) || b) (ap (λ b. b && are_void t (t.oldest + h.m + 1) (t.oldest + t.pages - (t.oldest + h.m + 1))) rows ∙ void) ∙ or_true (is_none (entry t (t.oldest + h.m)))
-      where
-        or_true : (b : Bool) → (b || true) ≡ true
-        or_true true = refl
-        or_true false = refl
+        ap (λ b. is_none (entry t (t.oldest + h.m)) || b) (ap (λ b. b && are_void t (t.oldest + h.m + 1) (t.oldest + t.pages - (t.oldest + h.m + 1))) rows ∙ void) ∙ or-true (is_none (entry t (t.oldest + h.m)))
 
     pub newest-check : page_check t h.m ≡ read_fault t.layout listed.number (t.rows listed.number) true known.last
     newest-check =
@@ -238,7 +235,7 @@ module _ (t : Come) (known : Known) (counts : List ℕ) where
             rows = omega (arith, rows_is, h.counted.rows, run.rows, count);
             last = last_is ∙ (ap (λ (o : Option ℕ). last_in o (rows_on t.layout (t.rows listed.number))) h.counted.last
                 ∙ (ap (λ p. last_in (known_after t h.m) (rows_on t.layout (t.rows p))) h.number_is ∙ sym (run.last ∙ last)));
-            noted = subst (λ p. AreNoted t 0 n (set counts (p % length counts) rows)) (sym h.number_is) (all_noted rows count);
+            noted = subst (λ p. AreNoted t 0 n (set counts (p % length counts) rows)) (sym h.number_is) (noted-set t h.m t.pages rows counts (omega (arith, h.within, fits)) (omega (arith, fits)) count h.counted.noted h.noted);
           };
           voids = omega (arith, voids_is, h.voids, run.voids, one);
           blob_end = omega (arith, end_is, h.blob_end, end-split (facts_on t) t.oldest (suc h.m) q n (omega (arith, h.within)), end);
@@ -246,13 +243,3 @@ module _ (t : Come) (known : Known) (counts : List ℕ) where
           cause = h.cause ∙ (ap (λ (o : Option MountFault). first_of o (first_of (fault_of known.fault) (left t t.index_pages t.pages))) fine
               ∙ ap (λ (o : Option Refusal). first_of (fault_of o) (left t t.index_pages t.pages)) none);
         }
-      where
-        all_noted : (rows : ℕ) → rows ≡ (facts_on t (t.oldest + h.m)).count → AreNoted t 0 t.pages (set counts ((t.oldest + h.m) % length counts) rows)
-        all_noted rows count i low high = elim (cases_lt i h.m) [
-          | inl less ↦ noted-other t h.m i rows counts (λ e. omega (arith, less, e)) (omega (arith, high, fits)) (omega (arith, h.within, fits)) (h.counted.noted i low less)
-          | inr ge ↦ elim (cases_lt h.m i) [
-            | inl above ↦ noted-other t h.m i rows counts (λ e. omega (arith, above, e)) (omega (arith, high, fits)) (omega (arith, h.within, fits)) (h.noted i (omega (arith, above)) high)
-            | inr le ↦ subst (λ j. slice_index (set counts ((t.oldest + h.m) % length counts) rows) ((t.oldest + j) % length (set counts ((t.oldest + h.m) % length counts) rows)) ≡ (facts_on t (t.oldest + j)).count)
-                (let e : h.m ≡ i = omega (arith, ge, le) in e) (noted-here t h.m rows counts (omega (arith, h.within, fits)) count)
-          ]
-        ]

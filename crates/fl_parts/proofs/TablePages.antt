@@ -1,16 +1,15 @@
 -- A table and its pages.
-use Rattle.std.proofs.Common.{◌≡◌, ℕ, ◌+◌, ◌-◌, ◌*◌, ◌%◌, ◌<◌, ◌≤◌, List, length, sym, ◌∙◌, ap, arith}
+use Rattle.std.proofs.Common.{◌≡◌, ℕ, ◌+◌, ◌-◌, ◌≤◌, List, length, sym, ap, arith}
 use Rattle.std.proofs.lemmas.List.{take_all}
-use Rattle.std.proofs.Math.Nat.{mod-lt, mul-le-mul_right, add-mul}
-use Rattle.fl_flash.specs.Flash.{FlashState, pages, page_at}
+use Rattle.fl_flash.specs.Flash.{FlashState, page_at}
 use Rattle.fl_flash.specs.Places.{extent}
 use Rattle.fl_model.specs.Record.{Plan}
 use Rattle.fl_model.specs.Ring.{IsRing}
 use Rattle.fl_model.specs.Table.{Table, DataRing, shape_of, lose}
 use Rattle.fl_parts.proofs.BlobTables.{HoldsVar}
 use Rattle.fl_parts.proofs.Plain.{IsPlainTable, plain-lose, table-facts}
-use Rattle.fl_ring.specs.Ring.{OnRing, place}
-use Rattle.fl_ring.proofs.Lengths.{page_length}
+use Rattle.fl_ring.specs.Ring.{OnRing}
+use Rattle.fl_ring.proofs.Lengths.{ring_lengths}
 use Rattle.fl_parts.specs.Pages.{HoldsTable, Rests}
 use Rattle.fl_parts.proofs.ListsStay.{HoldsIndexed}
 use Rattle.fl_parts.proofs.States.{shape_in, state_of, HaveSize, to-ring, to-image}
@@ -44,12 +43,4 @@ plain-rests f first plan table sizes large facts on indexed var = record {
 -- the pages of a flash have their size
 pub have-size : (f : FlashState) (first : ℕ) (plan : Plan) → f.start + extent f.geometry f.blocks ≤ length f.media.content → f.geometry ≡ plan.geometry → first + plan.data_blocks ≤ f.blocks →
     1 ≤ plan.data_blocks → 2 ≤ plan.geometry.block → HaveSize first plan (page_at f)
-have-size f first plan reaches geometry within some block n =
-    let P = plan.geometry.block in
-    let B = plan.data_blocks in
-    let room : 0 < B * P = let k : 1 * P ≤ B * P = mul-le-mul_right P some in omega (arith, k, block) in
-    let small : n % (B * P) < B * P = mod-lt n room in
-    let all : (first + B) * P ≤ f.blocks * P = mul-le-mul_right P within in
-    let split : (first + B) * P ≡ first * P + B * P = add-mul first B P in
-    let pages_is : pages f ≡ f.blocks * P = ap (λ g. f.blocks * g.block) geometry in
-    page_length f (place (shape_in first plan) n) reaches (omega (arith, small, all, split, pages_is)) ∙ ap (λ g. g.page) geometry
+have-size f first plan reaches geometry within some block = ring_lengths f plan.geometry first plan.data_blocks reaches geometry within some (omega (arith, block))

@@ -1,22 +1,22 @@
 -- A data page comes that no index page lists.
 use Rattle.std.proofs.Common.{◌≡◌, ℕ, suc, ◌+◌, ◌*◌, ◌%◌, ◌<◌, ◌≤◌, inl, inr, Bool, true, false, max, Option, Some, None, List, [], ◌∷◌, ◌++◌, length, refl, sym, ◌∙◌, ap, subst, arith}
-use Rattle.std.specs.Prelude.{cond, ◌==◌, ◌&&◌, nat_le, nat_lt, IfSome, option_map, unwrap_or, slice_set}
-use Rattle.std.proofs.lemmas.Bool.{eqb-true, eq-eqb, le-leb, leb-true, and_parts}
+use Rattle.std.specs.Prelude.{cond, nat_lt, IfSome, option_map, unwrap_or, slice_set}
 use Rattle.std.proofs.lemmas.Option.{none-some}
+use Rattle.fl_base.proofs.Tests.{not_zero}
 use Rattle.fl_find.specs.Index.{IndexOf}
 use Rattle.fl_find.specs.Pages.{first_key, rows_on, rows_where}
 use Rattle.fl_find.specs.declared.index.KeyIndex.{KeyIndex}
 use Rattle.fl_mark.specs.Mark.{state_of_page}
 use Rattle.fl_mark.specs.declared.page_state.PageState.{PageState}
-use Rattle.fl_mark.specs.declared.page_state.PageState.TheVariants.{Blank, Torn, Committed, Void}
 use Rattle.fl_model.specs.Layout.{Full}
 use Rattle.fl_model.specs.Record.{RowLayout}
 use Rattle.fl_model.specs.Row.{Row}
 use Rattle.fl_model.specs.Table.{first_of}
 use Rattle.fl_model.specs.BlobEnds.{blobs_end}
-use Rattle.fl_page.specs.Header.{page_number, page_count}
 use Rattle.fl_page.specs.Page.{IsGoodPage, bad_page, has_form}
+use Rattle.fl_page.proofs.Views.{good-form, form-good}
 use Rattle.fl_ring.specs.Newest.{commits}
+use Rattle.fl_ring.proofs.PageStates.{committed-is}
 use Rattle.fl_spline.specs.Points.{IsFurther}
 use Rattle.fl_parts.specs.ByEntries.{Come, entry, has_rows, is_committed, is_read, by_rows, by_page, facts_on, no_rows, points_of, read_fault, mount_fault, page_check}
 use Rattle.fl_parts.specs.Knowing.{left, KnowsBy, KnowsWith, IsWithin, IsUnlisted, counted_to, is_waiting}
@@ -29,29 +29,10 @@ use Rattle.fl_parts.proofs.PageChecks.{uncommitted-rows}
 use Rattle.fl_parts.proofs.KeyRows.{page-length}
 use Rattle.fl_parts.proofs.PointsKnown.{further-known}
 use Rattle.fl_parts.proofs.WaitingPageComes.{knows-all, points-all}
-use Rattle.fl_parts.proofs.ListedPageComes.{saw-void}
+use Rattle.fl_parts.proofs.ListedPageComes.{saw-void, newest-wider}
 use Rattle.fl_parts.proofs.Steps.{read-check, read-refused, read-facts, read-all}
-use Rattle.fl_parts.proofs.SomeRows.{not_zero}
 
 -- ---- a page by its bytes
-
-pub good-form : (layout : RowLayout) (number : ℕ) (page : List ℕ) → IsGoodPage layout number page → has_form layout number page ≡ true
-good-form layout number page g = join (page_number page == number) (nat_le 1 (page_count page)) (nat_le (page_count page) _) (eq-eqb (page_number page) number g.number_is) (le-leb 1 (page_count page) g.some) (le-leb (page_count page) _ g.room)
-  where
-    join : (a b c : Bool) → a ≡ true → b ≡ true → c ≡ true → ((a && b) && c) ≡ true
-    join a b c x y z = rw (x, y, z) refl
-
-form-good : (layout : RowLayout) (number : ℕ) (page : List ℕ) → has_form layout number page ≡ true → IsGoodPage layout number page
-form-good layout number page h =
-    let a = and_parts _ _ h in
-    let b = and_parts _ _ a.0 in
-    record { number_is = eqb-true _ _ b.0; some = leb-true _ _ b.1; room = leb-true _ _ a.1 }
-
-pub committed-is : (s : PageState) → commits s ≡ true → s ≡ Committed
-committed-is Committed e = refl
-committed-is Blank e = cc
-committed-is Torn e = cc
-committed-is Void e = cc
 
 -- a page that may stand there is found good, and one that may not isn't
 pub read-fine : (layout : RowLayout) (number : ℕ) (page : List ℕ) (last : Option ℕ) → IsRead layout number page last → read_fault layout number page (is_committed page) last ≡ None
@@ -182,19 +163,11 @@ pub within-rows : (oldest n : ℕ) (known now : Known) (rows last end : ℕ) →
 within-rows oldest n known now rows last end few is h = record {
   rows = omega (arith, h.rows, few, ap (λ (x : Known). x.rows) is, ap (λ (x : Known). is_waiting x.newest * 65536) is);
   voids = omega (arith, h.voids, ap (λ (x : Known). x.voids) is);
-  newest = subst (λ (o : Option Listed). IfSome o (λ listed. (oldest ≤ listed.number) × (listed.number < oldest + suc n))) (sym (ap (λ (x : Known). x.newest) is)) (wider known.newest h.newest);
+  newest = subst (λ (o : Option Listed). IfSome o (λ listed. (oldest ≤ listed.number) × (listed.number < oldest + suc n))) (sym (ap (λ (x : Known). x.newest) is)) (newest-wider oldest n known.newest h.newest);
 }
-  where
-    wider : (o : Option Listed) → IfSome o (λ listed. (oldest ≤ listed.number) × (listed.number < oldest + n)) → IfSome o (λ listed. (oldest ≤ listed.number) × (listed.number < oldest + suc n))
-    wider None h = tt
-    wider (Some listed) h = (h.0, omega (arith, h.1))
 
 pub within-more : (oldest n : ℕ) (known : Known) → IsWithin oldest n known → IsWithin oldest (suc n) known
-within-more oldest n known h = record { rows = omega (arith, h.rows); voids = omega (arith, h.voids); newest = wider known.newest h.newest }
-  where
-    wider : (o : Option Listed) → IfSome o (λ listed. (oldest ≤ listed.number) × (listed.number < oldest + n)) → IfSome o (λ listed. (oldest ≤ listed.number) × (listed.number < oldest + suc n))
-    wider None h = tt
-    wider (Some listed) h = (h.0, omega (arith, h.1))
+within-more oldest n known h = record { rows = omega (arith, h.rows); voids = omega (arith, h.voids); newest = newest-wider oldest n known.newest h.newest }
 
 -- ---- a page of which an entry tells rows
 

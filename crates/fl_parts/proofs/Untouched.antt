@@ -1,27 +1,13 @@
 -- What is left by a call of a table that has nothing to do, and what is said of one that may fail.
-use Rattle.std.proofs.Common.{◌≡◌, ℕ, ◌+◌, ◌<◌, ◌≤◌, Bool, true, false, ◌&&◌, Option, Some, None, Result, Ok, Err, OnOk, OnErr, IfOk, is_some, refl, arith}
+use Rattle.std.proofs.Common.{◌≡◌, ℕ, ◌+◌, ◌≤◌, false, Option, Some, None, Result, Ok, Err, OnOk, OnErr, IfOk, is_some, arith}
 use Rattle.std.specs.Result.{IsErrAnd}
 use Rattle.fl_ring.specs.declared.ring.Ring.{Ring}
-
--- nothing was counted
-pub at-most : (n k : ℕ) → n ≤ n + k
-at-most n k = omega arith
 
 pub at-most-two : (n k j : ℕ) → n ≤ n + k + j
 at-most-two n k j = omega arith
 
 pub at-most-more : (n m k : ℕ) → n ≤ m → n ≤ m + k
 at-most-more n m k le = omega (arith, le)
-
-pub at-most-same : (n m : ℕ) → n ≡ m → n ≤ m
-at-most-same n m e = omega (arith, e)
-
-pub above : {n m : ℕ} → n < m → m ≤ n → ⊥
-above lt le = omega (arith, lt, le)
-
-pub and-false : (b : Bool) → (b && false) ≡ false
-and-false true = refl
-and-false false = refl
 
 -- a table that isn't running has no ring
 pub no-ring : (o : Option Ring) (ring : Ring) → is_some o ≡ false → o ≡ Some ring → ⊥

@@ -4,7 +4,6 @@ use Rattle.std.proofs.Common.{length-take}
 use Rattle.std.specs.List.{slice_get}
 use Rattle.std.proofs.Math.Nat.{mul-le-mul_right}
 use Rattle.std.proofs.lemmas.Bool.{cases_lt, le-ltb, lt-ltb, ltb-true, ne_eqb, and_parts, false≢true}
-use Rattle.std.proofs.lemmas.List.{take-append-le}
 use Rattle.std.proofs.lemmas.Option.{same_Some}
 use Rattle.fl_model.specs.Agrees.{content_at, reach_of, HoldsBlob, BlobsOf}
 use Rattle.fl_model.specs.Content.{ContentPage, content_page}
@@ -17,6 +16,7 @@ use Rattle.fl_model.proofs.BlobsStay.{blobs-sealed}
 use Rattle.fl_model.proofs.FullPages.{full-append, full-one, full-split, full-dropped, full-pushed}
 use Rattle.fl_model.proofs.Lists.{slice_get-drop, slice_get-left, slice_get-last, slice_get-front, slice_get-push, drop_none, take_none}
 use Rattle.fl_model.proofs.StandingPages.{is_one, stands-behind, stands-not, stands-count, stands-kept, kept-stands}
+use Rattle.fl_model.proofs.TableSeals.{written-push}
 use Rattle.fl_parts.specs.Blobs.{AreIn, AreLed, ArePlaced}
 
 -- ---- blobs that a table holds
@@ -314,16 +314,11 @@ has-joined plan item table ring some few h = record {
   each = h.each;
   stand = blobs-joined plan item table ring some few h.is h.stand;
   placed = placed-joined plan item table ring h.is h.placed;
-  written = subst (λ (es : List Entry). AreIn plan ring es) (sym whole) h.written;
+  written = subst (λ (es : List Entry). AreIn plan ring es) (sym (written-push table last)) h.written;
 }
   where
     last : Entry
     last = record { kept = item; page = start_page plan (blob_len item) table; offset = start_offset plan (blob_len item) table }
-
-    whole : take (length (table.entries ++ last ∷ []) - (table.pending + 1)) (table.entries ++ last ∷ []) ≡ written table
-    whole =
-        let count : length (table.entries ++ last ∷ []) - (table.pending + 1) ≡ length table.entries - table.pending = omega (arith, length-append table.entries (last ∷ [])) in
-        ap (λ n. take n (table.entries ++ last ∷ [])) count ∙ take-append-le (length table.entries - table.pending) table.entries (last ∷ []) (omega arith)
 
 -- where all were given up, none stands
 pub blobs-none : (plan : Plan) (table : Table) (ring : Ring) → ((i : ℕ) (entry : Entry) (blob : List ℕ) → slice_get table.entries i ≡ Some entry → entry.kept.blob ≡ Some blob → 0 < length blob → entry.page < oldest ring) → BlobsOf plan table ring

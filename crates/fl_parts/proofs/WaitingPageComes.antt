@@ -1,6 +1,7 @@
 -- A page with rows comes behind the one that waits.
 use Rattle.std.proofs.Common.{◌≡◌, ℕ, suc, ◌+◌, ◌-◌, ◌*◌, ◌%◌, ◌<◌, ◌≤◌, true, false, max, Option, Some, None, List, [], ◌∷◌, ◌++◌, length, refl, sym, ◌∙◌, ap, subst, arith}
 use Rattle.std.specs.Prelude.{cond, IfSome, unwrap_or, slice_set}
+use Rattle.fl_base.proofs.Tests.{not_zero}
 use Rattle.fl_find.specs.Index.{IndexOf}
 use Rattle.fl_find.specs.declared.index.KeyIndex.{KeyIndex}
 use Rattle.fl_model.specs.Layout.{Full}
@@ -15,7 +16,6 @@ use Rattle.fl_parts.specs.declared.known.Listed.{Listed}
 use Rattle.fl_parts.proofs.Aside.{aside-refused, behind-refused, counted-aside, facts-aside}
 use Rattle.fl_parts.proofs.NextPage.{void-run}
 use Rattle.fl_parts.proofs.PointsKnown.{further-known}
-use Rattle.fl_parts.proofs.SomeRows.{not_zero}
 
 module _ {KNOTS SLOTS : ℕ} (error : ℕ) (t : Come) (k n : ℕ) (known : Known) (counts : List ℕ) (index : KeyIndex KNOTS SLOTS) (h : KnowsWith error t k n known counts index) where
   -- what is known by the page that waits

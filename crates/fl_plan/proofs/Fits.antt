@@ -1,6 +1,6 @@
 -- What holds of a configuration that isn't refused: its rings, its blobs, its rows and its columns.
 use Rattle.std.proofs.Common.{◌≡◌, ℕ, ◌+◌, ◌*◌, ◌≤◌, ◌-◌, ◌==◌, not, Bool, true, false, cond, ◌||◌, ◌&&◌, nat_lt, is_some, Option, Some, None, IfSome, [], ◌∷◌, ◌++◌, length, map, refl, ap, arith}
-use Rattle.std.proofs.lemmas.Bool.{ltb-false, le-ltb, eqb-true, ne_eqb, not-false}
+use Rattle.std.proofs.lemmas.Bool.{ltb-false, le-ltb, eqb-true, ne_eqb, not-false, or_parts}
 use Rattle.std.proofs.lemmas.Bool.Decides.{nat_tests}
 use Rattle.std.proofs.lemmas.List.{length-map}
 use Rattle.std.proofs.Math.Nat.{mul-le-mul_right, add-mul}
@@ -64,10 +64,6 @@ alone-fits log config fits =
     let size : too_large config.geometry (plan ∷ []) ≡ false = fewer-fit config.geometry (sum_by blocks_of (plan ∷ [])) (sum_by blocks_of (with_log (blocks_in log) plan ∷ [])) few passed.size in
     none-both (field_faults config ++ room_faults plan) (ring_faults None config) (none_first (field_faults config ++ room_faults plan) (ring_faults log config) fits) (rw size (rw passed.format refl))
 
-or_false : (a b : Bool) → (a || b) ≡ false → a ≡ false
-or_false true b e = cc
-or_false false b e = refl
-
 -- the data ring and an index ring, which has six pages at least, have no more pages than a device
 pub few-pages : (config : TableConfig) (place : RingPlace) → config_fault config ≡ None → IsWithinLimits config → config.index ≡ Some place → config.rows.blocks * config.geometry.block + 6 ≤ 65536
 few-pages config place fits limits is =
@@ -75,7 +71,7 @@ few-pages config place fits limits is =
     let total : sum_by blocks_of (plan_of_table nameless config ∷ []) ≡ config.rows.blocks + blocks_in config.index + blocks_in config.var = omega (arith, sum_by-cons blocks_of (plan_of_table nameless config) []) in
     let few : sum_by blocks_of (plan_of_table nameless config ∷ []) * config.geometry.block ≤ 65536 =
     ltb-false 65536 (sum_by blocks_of (plan_of_table nameless config ∷ []) * config.geometry.block)
-    (or_false (nat_lt 65536 (sum_by blocks_of (plan_of_table nameless config ∷ []) * config.geometry.block)) (nat_lt 67108864 (sum_by blocks_of (plan_of_table nameless config ∷ []) * config.geometry.block * config.geometry.page)) small) in
+    (or_parts (nat_lt 65536 (sum_by blocks_of (plan_of_table nameless config ∷ []) * config.geometry.block)) (nat_lt 67108864 (sum_by blocks_of (plan_of_table nameless config ∷ []) * config.geometry.block * config.geometry.page)) small).0 in
     let three : 3 ≤ blocks_in config.index = index_some config.index is limits.index in
     let more : (config.rows.blocks + 3) * config.geometry.block ≤ sum_by blocks_of (plan_of_table nameless config ∷ []) * config.geometry.block = mul-le-mul_right config.geometry.block (omega (arith, three, total)) in
     let split = add-mul config.rows.blocks 3 config.geometry.block in
@@ -90,10 +86,6 @@ not_first : (b : Bool) (fault : ConfigFault) (o : Option ConfigFault) → cond b
 not_first true fault o e = cc
 not_first false fault o e = refl
 
-or_right : (a b : Bool) → (a || b) ≡ false → b ≡ false
-or_right true b e = cc
-or_right false b e = e
-
 rooms : (config : TableConfig) → config_fault config ≡ None → first_fault (room_faults (plan_of_table nameless config)) ≡ None
 rooms config fits =
     let plan = plan_of_table nameless config in
@@ -107,8 +99,8 @@ few-blobs config fits =
     by_blocks : (b : Bool) → cond b (not (config.blob_limit == 0)) ((config.blob_limit == 0) || nat_lt 1500 config.blob_limit || nat_lt (content_per_page (plan_of_table nameless config) * ((blocks_in config.var - 1) * config.geometry.block - 2)) config.blob_limit) ≡ false → config.blob_limit ≤ 1500
     by_blocks true e = let z = eqb-true config.blob_limit 0 (not-false (config.blob_limit == 0) e) in omega (arith, z)
     by_blocks false e =
-        let a = or_false ((config.blob_limit == 0) || nat_lt 1500 config.blob_limit) (nat_lt (content_per_page (plan_of_table nameless config) * ((blocks_in config.var - 1) * config.geometry.block - 2)) config.blob_limit) e in
-        let le = ltb-false 1500 config.blob_limit (or_right (config.blob_limit == 0) (nat_lt 1500 config.blob_limit) a) in
+        let a = (or_parts ((config.blob_limit == 0) || nat_lt 1500 config.blob_limit) (nat_lt (content_per_page (plan_of_table nameless config) * ((blocks_in config.var - 1) * config.geometry.block - 2)) config.blob_limit) e).0 in
+        let le = ltb-false 1500 config.blob_limit (or_parts (config.blob_limit == 0) (nat_lt 1500 config.blob_limit) a).1 in
         omega (arith, le)
 
 -- a row has room in a page, and a schema its columns

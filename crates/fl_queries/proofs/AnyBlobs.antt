@@ -2,6 +2,7 @@
 use Rattle.std.proofs.Common.{◌≡◌, ℕ, zero, suc, Bool, true, inl, inr, Option, Result, Err, List, [], ◌∷◌, ◌++◌, length, codes, refl, sym, ap, subst, append_assoc, is_ok}
 use Rattle.std.proofs.lemmas.Bool.{false≢true}
 use Rattle.fl_base.specs.Causes.{Appends, AppendsFront}
+use Rattle.fl_base.proofs.Appended.{appends-append, front-behind, front-more}
 use Rattle.fl_flash.specs.Flash.{FlashState}
 use Rattle.fl_page.specs.Causes.{IsCaused}
 use Rattle.fl_frame.specs.Contents.{OnlyReads}
@@ -9,16 +10,15 @@ use Rattle.fl_page.specs.declared.fault.BadPage.{BadPage}
 use Rattle.fl_page.specs.declared.fault.ReadFault.{ReadFault}
 use Rattle.fl_page.specs.declared.fault.ReadFault.TheVariants as fault
 use Rattle.fl_page.proofs.ReadsInTurn.{IsCaused-later}
-use Rattle.fl_script.proofs.SinkPieces.{appends-append}
 use Rattle.fl_script.specs.Written.{Written}
-use Rattle.fl_store.proofs.Appends.{front-behind, front-more}
+use Rattle.fl_script.proofs.SinkPieces.{written-behind}
 use Rattle.fl_var.specs.Reading.{IfBad}
 use Rattle.fl_words.specs.Reply as reply
 use Rattle.fl_words.specs.Reply.{Reply, hex_text, text}
 use Rattle.fl_queries.specs.BlobLine.{read_reply}
 use Rattle.fl_queries.specs.BlobSays.{BlobSays, EndsBlob, IsBlob, TellsTaken}
 use Rattle.fl_queries.specs.ListSays.{IsUnread}
-use Rattle.fl_queries.proofs.BlobLines.{hex-append, written-after}
+use Rattle.fl_queries.proofs.BlobLines.{hex-append}
 use Rattle.fl_queries.proofs.RowLines.{one-text}
 
 -- what is said of a page that wasn't read
@@ -40,7 +40,7 @@ module _ {E : Type 0} (Tells : Reply → Type 0) (IsBad IsBadOn : BadPage → Ty
   says-parts bytes begun given first digits wrote tells =
       says-one (reply.Bytes bytes) tt tells
       (subst (λ (l : List ℕ). Written told now result l) (sym (append_assoc (codes "bytes ") (hex_text bytes) (10 ∷ [])))
-      (written-after told begun now result (codes "bytes ") (hex_text bytes ++ 10 ∷ []) first (written-after begun given now result (hex_text bytes) (10 ∷ []) digits wrote)))
+      (written-behind told begun now (codes "bytes ") (hex_text bytes ++ 10 ∷ []) result first (written-behind begun given now (hex_text bytes) (10 ∷ []) result digits wrote)))
 
   -- .. behind which a page wasn't read
   pub says-cut : (bytes : List ℕ) (begun given ended : Option (List ℕ)) (e : ReadFault) → IsCaused f e g → IfBad IsBadOn e → Appends told begun (codes "bytes ") → Appends begun given (hex_text bytes) → Appends given ended (10 ∷ []) → Written ended now result (text (read_reply e)) →
@@ -54,7 +54,7 @@ module _ {E : Type 0} (Tells : Reply → Type 0) (IsBad IsBadOn : BadPage → Ty
         are_lines = (tt, tt);
         last = read_reply e;
         ends = unread-said IsBadOn f g e caused is_bad;
-        written = subst (λ (l : List ℕ). Written told now result l) (ap (λ (l : List ℕ). text (reply.Bytes bytes) ++ l) (sym (one-text (read_reply e)))) (written-after told ended now result (text (reply.Bytes bytes)) (text (read_reply e)) all wrote);
+        written = subst (λ (l : List ℕ). Written told now result l) (ap (λ (l : List ℕ). text (reply.Bytes bytes) ++ l) (sym (one-text (read_reply e)))) (written-behind told ended now (text (reply.Bytes bytes)) (text (read_reply e)) result all wrote);
       }
 
 -- the sink failed in the line of bytes

@@ -5,20 +5,18 @@ use Rattle.std.proofs.lemmas.Bool.{false≢true}
 use Rattle.fl_base.specs.Causes.{Appends, AppendsFront}
 use Rattle.fl_base.specs.declared.stream.SinkFailed.{SinkFailed}
 use Rattle.fl_base.specs.declared.types.KeyRange.{KeyRange}
+use Rattle.fl_base.proofs.Appended.{appends-append, appends-none, front-behind}
 use Rattle.fl_cursor.specs.Asked.{asked_by}
 use Rattle.fl_cursor.specs.Cursor.{IfBad, MayBeBad, asked_of, mark_of, table_of}
 use Rattle.fl_cursor.specs.Sound.{IsSoundAhead, IsSoundOver}
 use Rattle.fl_cursor.specs.declared.bookmark.Bookmark.{Bookmark}
 use Rattle.fl_cursor.specs.declared.cursor.Cursor.{Cursor}
 use Rattle.fl_flash.specs.Flash.{FlashState}
-use Rattle.fl_machine.proofs.Logs.{all_append}
 use Rattle.fl_frame.specs.Contents.{Contents, contents_of}
 use Rattle.fl_page.specs.declared.fault.BadPage.{BadPage}
 use Rattle.fl_page.specs.declared.fault.ReadFault.{ReadFault}
 use Rattle.fl_page.specs.declared.fault.ReadFault.TheVariants as fault
-use Rattle.fl_script.proofs.SinkPieces.{appends-append}
 use Rattle.fl_script.specs.Written.{Written}
-use Rattle.fl_store.proofs.Appends.{appends-none, front-behind}
 use Rattle.fl_table.specs.declared.table.Table.{Table}
 use Rattle.fl_words.specs.Reply as reply
 use Rattle.fl_words.specs.Reply.{Reply, text, texts}
@@ -27,10 +25,6 @@ use Rattle.fl_queries.specs.Listed.{IfUnread, SaysFault}
 use Rattle.fl_queries.specs.declared.listing.ListFault.{ListFault}
 use Rattle.fl_queries.specs.declared.listing.ListFault.TheVariants.{Sink, Read}
 use Rattle.fl_queries.proofs.RowLines.{front-last, texts-last, written-last}
-
--- one line more of a kind
-pub each-more : (IsLine : Reply → Type 0) (lines : List Reply) (line : Reply) → AllByRecursion IsLine lines → IsLine line → AllByRecursion IsLine (lines ++ line ∷ [])
-each-more IsLine lines line are is = all_append IsLine lines (line ∷ []) are (is, tt)
 
 pub wrote-none : (AreLines : List Reply → Type 0) (most : ℕ) (told : Option (List ℕ)) → AreLines [] → WroteLines AreLines most told told 0
 wrote-none AreLines most told none = record { lines = []; are_lines = none; many = refl; upto = omega arith; wrote = appends-none told }

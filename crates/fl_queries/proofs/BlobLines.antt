@@ -1,13 +1,14 @@
 -- The digits of a blob, chunk by chunk.
-use Rattle.std.proofs.Common.{◌≡◌, ℕ, zero, suc, ◌+◌, ◌/◌, ◌%◌, ◌<◌, ◌≤◌, Bool, true, false, inl, inr, IsErr, Option, Result, Ok, Err, List, [], ◌∷◌, ◌++◌, length, take, refl, sym, ◌∙◌, ap, subst, arith, append_assoc, append-nil, length-append, codes, take_at}
+use Rattle.std.proofs.Common.{◌≡◌, ℕ, ◌+◌, ◌/◌, ◌%◌, ◌<◌, ◌≤◌, Bool, true, false, inl, inr, IsErr, Option, Result, Err, List, [], ◌∷◌, ◌++◌, length, take, refl, sym, ◌∙◌, ap, subst, arith, append_assoc, append-nil, length-append, codes, take_at, pos_of_ne-zero}
 use Rattle.std.proofs.lemmas.Grind.{flat_map-append}
 use Rattle.std.proofs.lemmas.Bool.{false≢true}
 use Rattle.fl_base.specs.Causes.{Rose, Appends, AppendsFront}
+use Rattle.fl_base.proofs.Appended.{appends-append, appends-none, front-more}
 use Rattle.fl_flash.specs.Flash.{FlashState}
 use Rattle.fl_page.specs.Causes.{IsCaused}
 use Rattle.fl_page.specs.declared.fault.ReadFault.{ReadFault}
 use Rattle.fl_page.specs.declared.fault.ReadFault.TheVariants.{Flash, BadPage}
-use Rattle.fl_script.proofs.SinkPieces.{appends-append, sent-failed, written-err}
+use Rattle.fl_script.proofs.SinkPieces.{sent-failed, written-err, written-behind}
 use Rattle.fl_script.specs.Written.{Written}
 use Rattle.fl_search.specs.Search.{RoseSome}
 use Rattle.fl_var.specs.Reading.{count_left, pages_left, has_here, bytes_left, Reads, IsWholeIn, NoneBad}
@@ -17,7 +18,6 @@ use Rattle.fl_words.specs.Reply.{hex_digit, hex_text, text, texts}
 use Rattle.fl_queries.specs.BlobLine.{GivesDigits, IsTurned, ShowsBytes, read_reply}
 use Rattle.fl_queries.specs.declared.listing.ListFault.TheVariants.{Read}
 use Rattle.fl_queries.proofs.Resumed.{rose-read, read-counted}
-use Rattle.fl_store.proofs.Appends.{appends-none, front-behind, front-more}
 
 pub hex-append : (xs ys : List ℕ) → hex_text (xs ++ ys) ≡ hex_text xs ++ hex_text ys
 hex-append xs ys = flat_map-append (λ x. hex_digit (x / 16) ∷ hex_digit (x % 16) ∷ []) xs ys
@@ -67,19 +67,10 @@ module _ (first mid new : BlobReader) (first_f f g : FlashState) (told told_mid 
   gave-unread (BadPage bad) none turned left unheld = none
   gave-unread (Flash fault) none turned left unheld =
       let all : take (length gave.given) (bytes_left first first_f) ≡ gave.given = ap (take (length gave.given)) gave.left ∙ take_at gave.given (bytes_left mid f) (length gave.given) refl in
-      let some : 1 ≤ length gave.given = by_given (length gave.given) (λ none. unheld (gave.begun none ∙ turned.here)) in
+      let some : 1 ≤ length gave.given = pos_of_ne-zero (λ none. unheld (gave.begun none ∙ turned.here)) in
       (length gave.given, some, omega (arith, turned.count, gave.count, left), subst (λ (l : List ℕ). Appends told told_mid (hex_text l)) (sym all) gave.wrote)
-    where
-      by_given : (n : ℕ) → (n ≡ 0 → ⊥) → 1 ≤ n
-      by_given zero h = absurd (h refl)
-      by_given (suc n) h = omega arith
 
 -- ---- the line
-
--- a text behind one that was written
-pub written-after : {E : Type 0} (before mid now : Option (List ℕ)) (result : Result (Unit {0}) E) (front rest : List ℕ) → Appends before mid front → Written mid now result rest → Written before now result (front ++ rest)
-written-after before mid now (Ok u) front rest first wrote = appends-append before mid now front rest first wrote
-written-after before mid now (Err e) front rest first wrote = front-behind before mid now front rest first wrote
 
 bytes-line : (bytes : List ℕ) → texts (words.Bytes bytes ∷ []) ≡ codes "bytes " ++ (hex_text bytes ++ 10 ∷ [])
 bytes-line bytes = append-nil (text (words.Bytes bytes)) ∙ append_assoc (codes "bytes ") (hex_text bytes) (10 ∷ [])
@@ -128,9 +119,9 @@ module _ {E : Type 0} (bytes : List ℕ) (told now : Option (List ℕ)) (faults 
   shows-unread (Flash fault) begun given ended gives rose first line wrote =
       let front = take gives.0 bytes in
       shows-fault gives.0 gives.1 gives.2 rose.0 rose.1
-      (written-after told begun now result (codes "bytes ") (hex_text front ++ (10 ∷ [] ++ text words.ReadFault)) first
-      (written-after begun given now result (hex_text front) (10 ∷ [] ++ text words.ReadFault) gives.3
-      (written-after given ended now result (10 ∷ []) (text words.ReadFault) line wrote)))
+      (written-behind told begun now (codes "bytes ") (hex_text front ++ (10 ∷ [] ++ text words.ReadFault)) result first
+      (written-behind begun given now (hex_text front) (10 ∷ [] ++ text words.ReadFault) result gives.3
+      (written-behind given ended now (10 ∷ []) (text words.ReadFault) result line wrote)))
 
   -- the sink failed behind it
   pub shows-unended : (e : ReadFault) (begun given : Option (List ℕ)) → GivesDigits bytes begun given (Err (Read e)) → RoseWith e faults faults_now reads reads_now → Appends told begun (codes "bytes ") → AppendsFront given now (10 ∷ []) → IsErr result → ShowsBytes bytes told now faults faults_now reads reads_now result
@@ -138,6 +129,6 @@ module _ {E : Type 0} (bytes : List ℕ) (told now : Option (List ℕ)) (faults 
   shows-unended (Flash fault) begun given gives rose first line failed =
       let front = take gives.0 bytes in
       shows-fault gives.0 gives.1 gives.2 rose.0 rose.1
-      (written-after told begun now result (codes "bytes ") (hex_text front ++ (10 ∷ [] ++ text words.ReadFault)) first
-      (written-after begun given now result (hex_text front) (10 ∷ [] ++ text words.ReadFault) gives.3
+      (written-behind told begun now (codes "bytes ") (hex_text front ++ (10 ∷ [] ++ text words.ReadFault)) result first
+      (written-behind begun given now (hex_text front) (10 ∷ [] ++ text words.ReadFault) result gives.3
       (written-err given now result (10 ∷ [] ++ text words.ReadFault) failed (front-more given now (10 ∷ []) (text words.ReadFault) line))))

@@ -27,8 +27,9 @@ use Rattle.fl_schema.specs.Schema.{row_of, layout_of_row, bytes_of}
 use Rattle.fl_schema.specs.declared.row.RowRef.{RowRef}
 use Rattle.fl_script.specs.Written.{Written}
 use Rattle.fl_search.specs.Search.{RoseSome}
+use Rattle.fl_search.proofs.Pages.{rose-after}
 use Rattle.fl_table.specs.BlobAt.{has_blobs, content_in}
-use Rattle.fl_table.specs.Finding.{Finds, ShowsEntry, LookupFails, row_of_place}
+use Rattle.fl_table.specs.Finding.{Finds, ShowsEntry, row_of_place}
 use Rattle.fl_table.specs.Look.{layout_in}
 use Rattle.fl_table.specs.Standing.{Stands}
 use Rattle.fl_table.specs.declared.find.RowAt.{RowAt}
@@ -74,12 +75,6 @@ finds-row plan table key buf place row shows at =
     by_blob None e = (shows.entry, shows.found, e)
     by_blob (Some bytes) e = record { entry = shows.entry; found = shows.found; slot = here.0; here = here.1; bytes = bytes; blob_is = e; at_is = refl }
 
--- why a lookup fails
-pub lookup-caused : (t : Table 64 64) (f g : FlashState) (e : ReadFault) → LookupFails t f e g → IsCaused f e g
-lookup-caused t f g (Flash PowerLost) h = h.0
-lookup-caused t f g (Flash Media) h = h
-lookup-caused t f g (BadPage bad) h = tt
-
 -- .. with no bad page
 pub finds-unread : (knots : ℕ) (plan : Plan) (table : model.Table) (key before now : ℕ) (buf : BufferState) (e : ReadFault) → Finds knots plan table key before now buf (Err e) → FindsBlob table key (Err e)
 finds-unread knots plan table key before now buf (Flash fault) h = tt
@@ -108,13 +103,6 @@ pub holds-blob : (plan : Plan) (table : model.Table) (i : ℕ) (entry : Entry) (
 holds-blob plan table i entry bytes facts slot blob ring is kept some = blobs-of plan table ring facts is i entry bytes slot blob some kept
 
 -- ---- what is said of it
-
--- a count rose behind one that is no lower
-rose-later : (before mid now : ℕ) → (mid < 2 ^ 64 - 1 → before ≤ mid) → RoseSome mid now → RoseSome before now
-rose-later before mid now later rose = λ below.
-    let more = rose below in
-    let first = later (omega (arith, more, below)) in
-    omega (arith, more, first)
 
 module _ {E : Type 0} (told now : Option (List ℕ)) (faults faults_now reads reads_now : ℕ) (result : Result (Unit {0}) E) where
   -- one reply
@@ -158,7 +146,7 @@ module _ {E : Type 0} (told now : Option (List ℕ)) (faults faults_now reads re
     replies = shows.replies;
     replied = inl (subst (λ s. BlobReplies shows.rose s shows.replies) (sym is) (by_bytes bytes some shows.replied));
     wrote = shows.wrote;
-    failed = λ unread. rose-later reads count reads_now before (shows.failed unread);
+    failed = λ unread. rose-after reads count reads_now before (shows.failed unread);
   }
     where
       by_bytes : (bytes : List ℕ) → 1 ≤ length bytes →
@@ -221,7 +209,7 @@ module _ {E : Type 0} (plan : Plan) (table : model.Table) (key : ℕ) (told now 
         ];
         wrote = says.wrote;
         within = omega (arith, first, second, same);
-        failed = λ unread. rose-later reads mid reads_now begun (says.failed unread);
+        failed = λ unread. rose-after reads mid reads_now begun (says.failed unread);
       }
 
   -- a page wasn't read in the lookup

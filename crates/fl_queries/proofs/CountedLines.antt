@@ -6,6 +6,7 @@ use Rattle.std.proofs.lemmas.Grind.{flat_map-append}
 use Rattle.std.proofs.lemmas.Result.{on_ok_weaker}
 use Rattle.fl_base.specs.Causes.{Appends, AppendsFront}
 use Rattle.fl_base.specs.declared.stream.SinkFailed.{SinkFailed}
+use Rattle.fl_base.proofs.Appended.{front-more}
 use Rattle.fl_flash.specs.Flash.{FlashState}
 use Rattle.fl_machine.specs.Reads.{is_read_fault}
 use Rattle.fl_model.proofs.Lists.{last_or-push}
@@ -13,7 +14,6 @@ use Rattle.fl_page.specs.declared.fault.BadPage.{BadPage as BadPageOf}
 use Rattle.fl_page.specs.declared.fault.ReadFault.TheVariants.{Flash, BadPage}
 use Rattle.fl_parts.proofs.ListedPages.{any-ok}
 use Rattle.fl_script.specs.Written.{Written}
-use Rattle.fl_store.proofs.Appends.{front-more}
 use Rattle.fl_words.specs.Reply as reply
 use Rattle.fl_words.specs.Reply.{Reply, text, texts}
 use Rattle.fl_queries.specs.Lines.{AreMade, Counted, IsNoBadPage, ReadsLines}

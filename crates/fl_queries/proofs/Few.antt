@@ -1,5 +1,5 @@
 -- How many records a table holds at most.
-use Rattle.std.proofs.Common.{ℕ, ◌*◌, ◌-◌, ◌/◌, ◌^◌, ◌<◌, ◌≤◌, Option, List, [], ◌∷◌, length, filter, Bool, true, false, cond, ap, arith, div-le_self, suc-mul}
+use Rattle.std.proofs.Common.{ℕ, ◌*◌, ◌-◌, ◌/◌, ◌^◌, ◌<◌, ◌≤◌, Option, List, [], ◌∷◌, length, ap, arith, div-le_self, suc-mul}
 use Rattle.std.proofs.lemmas.List.Sums.{sum_by-cons}
 use Rattle.std.proofs.lemmas.Nat.{mul-le}
 use Rattle.std.specs.List.{AllByRecursion, sum}
@@ -11,6 +11,7 @@ use Rattle.fl_model.specs.Table.{Entry, DataRing}
 use Rattle.fl_model.specs.Query.{selected, matches}
 use Rattle.fl_base.specs.declared.types.KeyRange.{KeyRange}
 use Rattle.fl_base.specs.declared.types.Span.{Span}
+use Rattle.fl_model.proofs.Lists.{length-filter-le}
 use Rattle.fl_table.specs.Standing.{Stands}
 use Rattle.fl_table.specs.declared.table.Table.{Table}
 
@@ -19,14 +20,6 @@ sum-most : (most : ℕ) (xs : List ℕ) → AllByRecursion (λ x. x ≤ most) xs
 sum-most most [] all = omega arith
 sum-most most (x ∷ xs) all =
     omega (arith, all.0, sum-most most xs all.1, sum_by-cons (λ n. n) x xs, suc-mul (length xs) most)
-
-pub length-filter : {X : Type 0} (p : X → Bool) (xs : List X) → length (filter p xs) ≤ length xs
-length-filter p [] = omega arith
-length-filter p (x ∷ xs) = by_test (p x) (length-filter p xs)
-  where
-    by_test : (b : Bool) → length (filter p xs) ≤ length xs → length (cond b (x ∷ filter p xs) (filter p xs)) ≤ length (x ∷ xs)
-    by_test true h = omega (arith, h)
-    by_test false h = omega (arith, h)
 
 module _ (t : Table 64 64) (f : FlashState) (first : ℕ) (plan : Plan) (table : model.Table) (stands : Stands t f first plan table) where
   few-in-page : rows_per_page plan ≤ 4096
@@ -48,5 +41,5 @@ module _ (t : Table 64 64) (f : FlashState) (first : ℕ) (plan : Plan) (table :
 
   pub few-selected : (range : KeyRange) (span : Option Span) → length (selected range span table.entries) < 2 ^ 63
   few-selected range span =
-      let few = length-filter (λ (entry : Entry). matches range span entry.kept) table.entries in
+      let few = length-filter-le (λ (entry : Entry). matches range span entry.kept) table.entries in
       omega (arith, few, few-entries)

@@ -5,9 +5,9 @@ use Rattle.fl_model.specs.Operators.{column_of, group_numbers, group_values, gro
 use Rattle.fl_model.specs.Record.{Record}
 use Rattle.fl_model.specs.Row.{stored_row}
 use Rattle.fl_model.specs.Table.{Entry}
+use Rattle.fl_model.proofs.Lists.{length-filter-le}
 use Rattle.fl_ops.specs.Columns.{record_of, records_of}
 use Rattle.fl_queries.proofs.OperatorLines.{column-stored}
-use Rattle.fl_queries.proofs.Few.{length-filter}
 
 -- what gives the same of each item gives the same list
 filter_map-same : {X Y : Type 0} (f g : X → Option Y) (xs : List X) → ((x : X) → f x ≡ g x) → filter_map f xs ≡ filter_map g xs
@@ -50,7 +50,7 @@ grouped-records column width entries =
 -- there are no more groups than records
 numbers-fewer : (width : ℕ) (items : List Record) → length (group_numbers width items) ≤ length items
 numbers-fewer width [] = omega arith
-numbers-fewer width (item ∷ items) = omega (arith, length-filter (λ group. not (group == item.key / width)) (group_numbers width items), numbers-fewer width items)
+numbers-fewer width (item ∷ items) = omega (arith, length-filter-le (λ group. not (group == item.key / width)) (group_numbers width items), numbers-fewer width items)
 
 pub groups-fewer : (column width : ℕ) (items : List Record) → length (aggregate column width items) ≤ length items
 groups-fewer column width items =

@@ -1,9 +1,10 @@
 -- The first row whose blob isn't gone, and the record whose it is.
-use Rattle.std.proofs.Common.{◌≡◌, ◌⊎◌, ℕ, zero, suc, ◌+◌, ◌<◌, ◌≤◌, Bool, true, false, cond, inl, inr, Option, Some, None, Err, List, [], ◌∷◌, length, map, refl, sym, ◌∙◌, ap, subst, arith, ◌||◌, ◌&&◌, ◌==◌, nat_le, nat_lt, option_map, unwrap_or, slice_get}
-use Rattle.std.specs.List.{AllByRecursion, find}
+use Rattle.std.proofs.Common.{◌≡◌, ◌⊎◌, ℕ, suc, ◌+◌, ◌<◌, ◌≤◌, Bool, true, false, cond, inl, inr, Option, Some, None, Err, List, [], ◌∷◌, length, map, refl, sym, ◌∙◌, ap, subst, arith, ◌||◌, ◌&&◌, ◌==◌, nat_le, nat_lt, option_map, unwrap_or, slice_get}
+use Rattle.std.specs.List.{find}
 use Rattle.std.proofs.lemmas.Bool.{le-leb, lt-leb, cases_lt, false≢true, true≢false}
 use Rattle.std.proofs.lemmas.Option.{same_Some}
-use Rattle.fl_cursor.proofs.Selected.{all-selected, few-keys}
+use Rattle.fl_cursor.proofs.Selected.{all-selected}
+use Rattle.fl_base.proofs.Tests.{some_from}
 use Rattle.fl_flash.specs.Flash.{FlashState}
 use Rattle.fl_model.specs.Facts.{BlobFits, FitsPlan, is_some_ring}
 use Rattle.fl_model.specs.Query.{Lost, Stands, blob_in, blob_of, page_stands, selected}
@@ -11,12 +12,14 @@ use Rattle.fl_model.specs.Record.{Plan, has_var}
 use Rattle.fl_model.specs.Ring.{Ring, oldest}
 use Rattle.fl_model.specs.Row.{Row, stored_row}
 use Rattle.fl_model.specs.Table.{Table, Entry}
+use Rattle.fl_model.proofs.Lists.{each-at}
 use Rattle.fl_page.specs.Steps.{Steps}
 use Rattle.fl_page.specs.declared.fault.ReadFault.{ReadFault}
 use Rattle.fl_page.specs.declared.fault.ReadFault.TheVariants.{Flash, BadPage}
 use Rattle.fl_parts.specs.Blobs as variable
 use Rattle.fl_table.specs.Standing as standing
 use Rattle.fl_table.specs.declared.table.Table as memory
+use Rattle.fl_table.proofs.Entries.{few-keys}
 use Rattle.fl_var.specs.declared.var_data.VarData.{VarData}
 use Rattle.fl_queries.specs.Keys.{all_keys}
 use Rattle.fl_queries.specs.OldestBlob.{first_kept, is_kept, is_left, oldest_blob, FindsAmong}
@@ -99,14 +102,10 @@ kept-as table ring entry var_is within placed = by-blob entry.kept.blob placed
         let stands : unwrap_or (option_map (λ (ring : Ring). page_stands ring entry.page) table.var) false ≡ page_stands ring entry.page = ap (λ (o : Option Ring). unwrap_or (option_map (λ (ring : Ring). page_stands ring entry.page) o) false) var_is in
         stands-as ring entry.page within (placed refl) ∙ (sym stands ∙ by-stands (unwrap_or (option_map (λ (ring : Ring). page_stands ring entry.page) table.var) false) bytes)
 
-    some-length : (bytes : List ℕ) → (length bytes == 0) ≡ false → 0 < length bytes
-    some-length [] e = cc
-    some-length (byte ∷ bytes) e = omega arith
-
     by-blob : (blob : Option (List ℕ)) → ((bytes : List ℕ) → blob ≡ Some bytes → 0 < length bytes → (entry.page < oldest ring) ⊎ (page_stands ring entry.page ≡ true)) →
         is_kept (oldest ring) (option_map (λ bytes. record { page = entry.page; offset = entry.offset; length = length bytes }) blob) ≡ is_left (blob_in table entry blob)
     by-blob None placed = refl
-    by-blob (Some bytes) placed = by-len (length bytes == 0) bytes refl (λ e. placed bytes refl (some-length bytes e))
+    by-blob (Some bytes) placed = by-len (length bytes == 0) bytes refl (λ e. placed bytes refl (some_from (length bytes) e))
 
 -- where there is no variable data, no record has a blob
 none-left : (plan : Plan) (table : Table) (entry : Entry) → has_var plan ≡ false → FitsPlan plan entry → is_left (blob_of table entry) ≡ false
@@ -115,12 +114,6 @@ none-left plan table entry none fits = by-blob entry.kept.blob fits.blob
     by-blob : (blob : Option (List ℕ)) → BlobFits plan entry blob → is_left (blob_in table entry blob) ≡ false
     by-blob None h = refl
     by-blob (Some bytes) h = absurd (false≢true (sym none ∙ h.0))
-
--- each entry of a list
-each-fits : (P : Entry → Type 0) (entries : List Entry) → AllByRecursion P entries → (i : ℕ) (entry : Entry) → slice_get entries i ≡ Some entry → P entry
-each-fits P [] all i entry e = cc
-each-fits P (x ∷ xs) all zero entry e = let same : x ≡ entry = cc in subst P same all.0
-each-fits P (x ∷ xs) all (suc i) entry e = each-fits P xs all.1 i entry e
 
 -- ---- of a table
 
@@ -133,7 +126,7 @@ module _ (t : memory.Table 64 64) (f : FlashState) (first : ℕ) (plan : Plan) (
       by-var None e var_is =
           let without : has_var plan ≡ false = sym stands.facts.has_rings.1 ∙ ap is_some_ring var_is in
           ap (option_map (λ (e : Entry). e.kept.key)) (find-none (λ entry. is_left (blob_of table entry)) table.entries
-          (λ i entry e. none-left plan table entry without (each-fits (FitsPlan plan) table.entries stands.facts.fit i entry e)))
+          (λ i entry e. none-left plan table entry without (each-at (FitsPlan plan) table.entries i entry stands.facts.fit e)))
       by-var (Some ring) e var_is = cc
 
   -- .. or the first of its rows whose blob is kept is that of the record

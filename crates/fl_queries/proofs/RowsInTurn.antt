@@ -1,5 +1,5 @@
 -- Rows that a cursor gives one after another, over any bytes.
-use Rattle.std.proofs.Common.{◌≡◌, ℕ, Bool, true, Option, Some, Result, List, [], ◌∷◌, ◌++◌, map, refl, sym, ◌∙◌, ap, subst}
+use Rattle.std.proofs.Common.{◌≡◌, ℕ, Bool, true, Option, Some, Result, List, [], ◌∷◌, ◌++◌, map, sym, ◌∙◌, ap, subst}
 use Rattle.std.proofs.lemmas.List.{map-append}
 use Rattle.std.specs.List.{last_or}
 use Rattle.fl_cursor.specs.Asked.{asked_by, is_left}
@@ -23,10 +23,6 @@ mark-more first mid new rows row at moved = moved ∙ (ap (λ (m : Bookmark). re
 given-more : (cursor : Cursor) (rows : List Row) (row : Row) → AreGiven cursor rows → is_left (record cursor { after = last_or cursor.after (map (λ (r : Row). r.key) rows) }) row ≡ true → AreGiven cursor (rows ++ row ∷ [])
 given-more cursor [] row given left = (left, tt)
 given-more cursor (x ∷ rows) row given left = (given.0, given-more (record cursor { after = Some x.key }) rows row given.1 left)
-
--- none was given yet
-pub over-none : (blobs : Bool) (mark : Bookmark) → MovesOver blobs mark mark []
-over-none blobs mark = record { are_rows = record { rows = []; lines_are = refl; given = tt }; mark_is = refl }
 
 module _ (blobs : Bool) (first mid new : Bookmark) (lines : List Reply) (over : MovesOver blobs first mid lines) where
   -- it went on, and gave no more

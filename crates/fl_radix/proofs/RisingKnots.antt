@@ -1,12 +1,12 @@
 -- Slots and bisections over knots that rise.
-use Rattle.std.proofs.Common.{ℕ, zero, suc, ◌≡◌, ◌<◌, ◌≤◌, ◌+◌, ◌-◌, ◌/◌, ◌^◌, List, [], ◌∷◌, ◌++◌, length, get_or, drop, Bool, true, false, leb, cond, zero-lt-suc, arith, refl, sym, ap, ◌∙◌, ⊎_elim, length-take, length-drop}
+use Rattle.std.proofs.Common.{ℕ, zero, suc, ◌≡◌, ◌<◌, ◌≤◌, ◌+◌, ◌-◌, ◌/◌, ◌^◌, List, [], ◌∷◌, ◌++◌, length, get_or, drop, Bool, true, false, leb, cond, arith, refl, sym, ap, ◌∙◌, ⊎_elim, length-take, length-drop}
 use Rattle.std.specs.Prelude.{slice_range, ◌==◌}
 use Rattle.std.specs.List.{count_by}
 use borrow.Author.Tests.{eq-eqb}
 use Rattle.std.proofs.lemmas.List.Sums.{count_by-le-length}
 use Rattle.std.proofs.lemmas.List.Recursion.{is_count_by}
 use Rattle.std.proofs.lemmas.List.{get_or-take, get_or-drop}
-use Rattle.std.proofs.lemmas.Bool.{cases_lt, true≢false, eqb-true, le-leb, lt-leb, ne_eqb}
+use Rattle.std.proofs.lemmas.Bool.{cases_lt, eqb-true, le-leb, lt-leb, ne_eqb}
 use Rattle.std.proofs.lemmas.Nat.{shr_below}
 use Rattle.std.proofs.Math.ListN.{get_or-append}
 use Rattle.std.proofs.Math.Seq.{get_or-append_seam}
@@ -18,11 +18,6 @@ use Rattle.fl_spline.proofs.Lists.{rises-take, rises-drop}
 use Rattle.fl_spline.proofs.Segments.{keys-rise}
 use Rattle.fl_base.proofs.BitsGrow.{bits-le}
 use Rattle.fl_radix.specs.Slots.{slot_of, first_key, last_key, knots_in_slot, IsStart, IsSlot, AreUpTo, AreBeyond}
-
--- what a test for none says
-pub some-are : (n : ℕ) (none : Bool) → none ≡ (n == 0) → none ≡ false → 0 < n
-some-are zero none is not_none = absurd (true≢false (sym is ∙ not_none))
-some-are (suc n) none is not_none = zero-lt-suc n
 
 pub none-are : {P : Type 0} (n : ℕ) (none : Bool) → none ≡ (n == 0) → none ≡ true → 0 < n → P
 none-are n none is are some = let zero_is : n ≡ 0 = eqb-true n 0 (sym is ∙ are) in absurd (omega (arith, zero_is, some))

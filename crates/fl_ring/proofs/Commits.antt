@@ -1,21 +1,18 @@
 -- How the program of a commit mark ends for the ring.
 use Rattle.std.proofs.Common.{◌≡◌, ℕ, ◌+◌, ◌/◌, ◌≤◌, ◌<◌, true, false, List, [], ◌∷◌, ◌++◌, length, take, drop, slice_range, Some, inl, inr, refl, sym, ◌∙◌, ap, subst, arith}
-use Rattle.std.proofs.lemmas.Bool.{cases_Bool}
 use Rattle.std.proofs.lemmas.List.{take_at, drop_at, drop-drop}
 use Rattle.fl_base.specs.Bytes.{all_are, splice}
 use Rattle.fl_base.specs.declared.types.CutKind.TheVariants.{Before, After, Half, Noise}
 use Rattle.fl_flash.specs.Flash.{FlashState, Goes, begin_of, page_at, pages, and_bytes, programmed, OthersStand, Programmed, TornProgram, TornPage}
 use Rattle.fl_mark.specs.Mark.{state_of_page}
-use Rattle.fl_mark.specs.declared.page_state.PageState.TheVariants.{Torn}
 use Rattle.fl_model.specs.Work.{Mark}
 use Rattle.fl_ring.specs.declared.ring.Ring.{Ring}
 use Rattle.fl_ring.specs.Place.{shape_of}
 use Rattle.fl_ring.specs.Ring.{RingState, place, OnRing, blank_end, committed_end, sealed}
-use Rattle.fl_ring.proofs.Added.{kept_on}
+use Rattle.fl_ring.proofs.Added.{kept_on, torn_still}
 use Rattle.fl_ring.proofs.CutPages.{Reaches, nothing_written, same_content, written_page, programs_there}
 use Rattle.fl_ring.proofs.PageBytes.{is_torn, mark_on_body, torn_mark}
 use Rattle.fl_ring.proofs.StepEnds.{OneOf, Exact, either_of}
-use Rattle.fl_ring.proofs.Steps.{on_torn}
 
 abbrev zeros : List ℕ
 zeros = 0 ∷ 0 ∷ 0 ∷ 0 ∷ []
@@ -34,22 +31,12 @@ four_zeros body =
 module _ (ring : Ring) (s : RingState) (body : List ℕ) (f g : FlashState) (p : ℕ) (at : p ≡ place (shape_of ring) s.next) (size : f.geometry.page ≡ ring.size)
     (on : OnRing (shape_of ring) (page_at f) s) (torn : s.torn ≡ true)
     (here : page_at f p ≡ body ++ blank_end) (fits : length body + 8 ≡ ring.size) (begun : all_are 255 body ≡ false) where
-  whole : record s { torn = true } ≡ s
-  whole = ap (λ b. record s { torn = b }) (sym torn)
-
-  tidy : s.dirty ≡ false
-  tidy = elim (cases_Bool s.dirty) [ inl d ↦ absurd (on.ring.not_both torn d) | inr d ↦ d ]
-
-  torn_still : OthersStand (page_at f) p (page_at g) → state_of_page (page_at g p) ≡ Torn → OnRing (shape_of ring) (page_at g) s
-  torn_still others is = subst (OnRing (shape_of ring) (page_at g)) whole
-      (on_torn (shape_of ring) (page_at f) (page_at g) s ring.served on tidy (subst (λ (q : ℕ). OthersStand (page_at f) q (page_at g)) at others) (ap (λ (q : ℕ). state_of_page (page_at g q)) (sym at) ∙ is))
-
   committed : OthersStand (page_at f) p (page_at g) → page_at g p ≡ body ++ committed_end → OnRing (shape_of ring) (page_at g) (sealed (shape_of ring) s body)
   committed others is = kept_on (shape_of ring) (page_at f) (page_at g) s (Some body) ring.served on torn (subst (λ (q : ℕ). OthersStand (page_at f) q (page_at g)) at others) (ap (page_at g) (sym at) ∙ is, fits)
 
   pub commit_any : TornProgram (page_at f) p (length body) 4 (page_at g) → OneOf (shape_of ring) s (sealed (shape_of ring) s body) g
   commit_any lost = elim (torn_mark body (page_at g p) begun (subst (λ (l : List ℕ). TornPage l (length body) 4 (page_at g p)) here lost.here)) [
-    | inl still ↦ inl (torn_still lost.others still)
+    | inl still ↦ inl (torn_still (shape_of ring) (page_at f) (page_at g) s p at ring.served on torn lost.others still)
     | inr is ↦ inr (committed lost.others is)
   ]
 
@@ -78,7 +65,7 @@ module _ (ring : Ring) (s : RingState) (body : List ℕ) (f g : FlashState) (p :
     commit_exact Half is one = (
       s,
       refl,
-      torn_still others
+      torn_still (shape_of ring) (page_at f) (page_at g) s p at ring.served on torn others
           (ap state_of_page
           (written_page f g p (length body) (0 ∷ 0 ∷ []) reach exists (omega (arith, range)) goes (is ∙ ap (λ (l : List ℕ). splice f.media.content (begin_of f p + length body) (take (length l / 2) l)) whole_front)
           ∙ ap (λ (l : List ℕ). splice l (length body) (0 ∷ 0 ∷ [])) here ∙ two_zeros body)

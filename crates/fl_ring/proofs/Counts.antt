@@ -1,15 +1,38 @@
 -- The steps of a ring are those of the model.
 use Rattle.std.proofs.Common.{◌≡◌, ℕ, suc, ◌+◌, ◌-◌, ◌*◌, ◌%◌, ◌<◌, Bool, true, false, ◌||◌, nat_lt, if◌then◌else◌, List, [], ◌∷◌, map, length, drop, get_or, is_some, Option, Some, None, IfSome, refl, sym, ◌∙◌, ap, arith}
 use Rattle.std.specs.List.{list_any, drop-map}
-use Rattle.std.proofs.lemmas.Bool.{and_parts, lt-ltb}
+use Rattle.std.proofs.lemmas.Bool.{and_from, and_parts, lt-ltb}
 use Rattle.std.proofs.lemmas.List.{length-map, map_push}
-use Rattle.std.proofs.lemmas.Nat.Gcd.{dvd_of_mod-eq-zero}
+use Rattle.std.proofs.lemmas.Nat.Gcd.{dvd_of_mod-eq-zero, mod-eq-zero_of_dvd}
 use Rattle.fl_model.specs.Ring as model
 use Rattle.fl_model.specs.Mount as mount
 use Rattle.fl_model.specs.Mount.{least_alike}
 use Rattle.fl_ring.specs.Counts.{page_count, ring_counts, model_shape, HoldsSome}
 use Rattle.fl_ring.specs.Numbers.{renumbered}
 use Rattle.fl_ring.specs.Ring.{Shape, RingState, count, room, IsRing, is_due, is_due_at, begun, appended, trimmed, sealed, voided, erased}
+
+-- the facts of the model's ring and those of its state
+pub ring_from : (r : Shape) (s : RingState) (counts : List ℕ) → length counts ≡ count s → model.IsRing (model_shape r) (record { counts = counts; next = s.next; torn = s.torn; dirty = s.dirty }) → IsRing r s
+ring_from r s counts len h = record {
+  not_negative = omega (arith, len, h.not_negative);
+  whole_blocks = ap (λ n. (s.next - n) % r.per_block) (sym len) ∙ mod-eq-zero_of_dvd r.per_block h.whole_blocks;
+  whole_rounds = λ few. ap (λ n. (s.next - n) % (r.blocks * r.per_block)) (sym len) ∙ mod-eq-zero_of_dvd (r.blocks * r.per_block) (h.whole_rounds (omega (arith, len, few)));
+  most = omega (arith, len, h.kept);
+  most_ahead = λ e. let k = h.kept_at_end e in omega (arith, len, k);
+  dirty_when = λ d. let k = h.dirty_at_end d in (k.0, sym len ∙ k.1);
+  not_both = λ t d. h.not_both (and_from s.torn s.dirty t d);
+}
+
+pub ring_back : (r : Shape) (s : RingState) (counts : List ℕ) → length counts ≡ count s → IsRing r s → model.IsRing (model_shape r) (record { counts = counts; next = s.next; torn = s.torn; dirty = s.dirty })
+ring_back r s counts len h = record {
+  not_negative = omega (arith, len, h.not_negative);
+  whole_blocks = dvd_of_mod-eq-zero r.per_block (ap (λ n. (s.next - n) % r.per_block) len ∙ h.whole_blocks);
+  whole_rounds = λ few. dvd_of_mod-eq-zero (r.blocks * r.per_block) (ap (λ n. (s.next - n) % (r.blocks * r.per_block)) len ∙ h.whole_rounds (omega (arith, few, len)));
+  kept = omega (arith, len, h.most);
+  kept_at_end = λ e. let k = h.most_ahead e in omega (arith, len, k);
+  dirty_at_end = λ d. let k = h.dirty_when d in (k.0, len ∙ k.1);
+  not_both = λ both. let b = and_parts s.torn s.dirty both in h.not_both b.0 b.1;
+}
 
 module _ (count_of : List ℕ → ℕ) where
   pub counts_begun : (s : RingState) → ring_counts count_of (begun s) ≡ model.begun (ring_counts count_of s)
@@ -62,12 +85,4 @@ module _ (count_of : List ℕ → ℕ) where
         by_any false = refl
 
     pub counts_ring : (s : RingState) → IsRing r s → model.IsRing (model_shape r) (ring_counts count_of s)
-    counts_ring s ring = record {
-      not_negative = omega (arith, counts_length s, ring.not_negative);
-      whole_blocks = dvd_of_mod-eq-zero r.per_block (ap (λ (n : ℕ). (s.next - n) % r.per_block) (counts_length s) ∙ ring.whole_blocks);
-      whole_rounds = λ few. dvd_of_mod-eq-zero (r.blocks * r.per_block) (ap (λ (n : ℕ). (s.next - n) % (r.blocks * r.per_block)) (counts_length s) ∙ ring.whole_rounds (omega (arith, few, counts_length s)));
-      kept = omega (arith, counts_length s, ring.most);
-      kept_at_end = λ at. omega (arith, counts_length s, ring.most_ahead at);
-      dirty_at_end = λ dirty. let w = ring.dirty_when dirty in (w.0, counts_length s ∙ w.1);
-      not_both = λ both. let b = and_parts s.torn s.dirty both in ring.not_both b.0 b.1;
-    }
+    counts_ring s ring = ring_back r s (ring_counts count_of s).counts (counts_length s) ring

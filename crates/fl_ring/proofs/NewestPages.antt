@@ -19,6 +19,7 @@ use Rattle.fl_ring.proofs.Clean.{places_apart, ahead_place, outside}
 use Rattle.fl_ring.proofs.CutPages.{Reaches}
 use Rattle.fl_ring.proofs.Facts.{due_false, sizes, two_blocks}
 use Rattle.fl_ring.proofs.Founds.{same_pages}
+use Rattle.fl_ring.proofs.Heads.{one_le}
 use Rattle.fl_ring.proofs.Lengths.{page_length}
 use Rattle.fl_ring.proofs.Modulo.{rest_back, mod_next}
 use Rattle.fl_ring.proofs.TornPages.{kept_most, kept_ahead, kept_few, next_sealed, torn_there}
@@ -72,6 +73,23 @@ held_for f g n r at at' bytes bytes' newest reads place same held =
     (subst (λ (k : ℕ). IfSome newest (λ x. bytes' ≡ page_at f (page_back r k x.back))) place
     (subst (λ (pg : ℕ → List ℕ). IfSome newest (λ x. bytes' ≡ pg (page_back r at x.back))) (same_pages f g n reads) held))
 
+-- the oldest page stays, or its block goes
+oldest_later : (f new : FlashState) (r : Shape) (at_least : ℕ) (ring : Ring) (h : HasNumbers f r at_least ring new) → h.numbers.oldest ≤ ring.oldest
+oldest_later f new r at_least ring h = subst (λ (n : ℕ). h.numbers.oldest ≤ n) (sym h.oldest) (oldest_by (h.numbers.torn && is_due_at r ring.next (ring.next - h.numbers.oldest)))
+  where
+    oldest_by : (b : Bool) → h.numbers.oldest ≤ cond b (h.numbers.oldest + r.per_block) h.numbers.oldest
+    oldest_by true = omega arith
+    oldest_by false = omega arith
+
+-- a ring is found to keep no more pages than it has
+pub ring_few : (f new : FlashState) (r : Shape) (at_least : ℕ) (ring : Ring) → 1 ≤ r.blocks → HasNumbers f r at_least ring new → IsTrue f.media.tells → ring.next - ring.oldest ≤ room r
+ring_few f new r at_least ring some h told =
+    let few = kept_few f r at_least (omega (arith, some)) h.numbers (h.is_found told) in
+    let next = h.next in
+    let more = one_le h.numbers.torn in
+    let low = oldest_later f new r at_least ring h in
+    omega (arith, few, next, more, low, (h.is_found told).oldest)
+
 -- the repairs of a ring that was found
 module _ (f new : FlashState) (r : Shape) (at_least : ℕ) (ring : Ring) (shape : IsShape r) (told : IsTrue f.media.tells) (block : f.geometry.block ≡ r.per_block) (h : HasNumbers f r at_least ring new) where
   abbrev found : IsFound f r at_least h.numbers
@@ -92,12 +110,8 @@ module _ (f new : FlashState) (r : Shape) (at_least : ℕ) (ring : Ring) (shape 
   most : kept_at f r found.front ≤ (r.blocks - 1) * r.per_block + next % r.per_block
   most = omega (arith, kept_most r (fulls (full_of f r) r.blocks) found.front.sealed, next_sealed f r at_least some h.numbers found)
 
-  oldest_by : (b : Bool) → h.numbers.oldest ≤ cond b (h.numbers.oldest + r.per_block) h.numbers.oldest
-  oldest_by true = omega arith
-  oldest_by false = omega arith
-
-  pub older : h.numbers.oldest ≤ ring.oldest
-  older = subst (λ (n : ℕ). h.numbers.oldest ≤ n) (sym h.oldest) (oldest_by (h.numbers.torn && is_due_at r ring.next (ring.next - h.numbers.oldest)))
+  older : h.numbers.oldest ≤ ring.oldest
+  older = oldest_later f new r at_least ring h
 
   -- the block ahead holds no page that is kept then
   ahead_fits : after % r.per_block ≡ r.per_block - 1 → after ≤ ring.oldest + ((r.blocks - 1) * r.per_block - 1)

@@ -2,6 +2,7 @@
 use Rattle.std.proofs.Common.{◌≡◌, ℕ, ◌+◌, ◌*◌, ◌/◌, ◌%◌, ◌≤◌, ◌<◌, Bool, true, false, if◌then◌else◌, List, length, replicate, slice_range, IsTrue, Result, Ok, Err, OnOk, OnErr, inl, inr, sym, ◌∙◌, ap, arith}
 use Rattle.std.proofs.Math.Nat.{mod-lt, mul-le-mul_right}
 use Rattle.std.proofs.lemmas.Bool.{cases_Bool}
+use Rattle.std.proofs.lemmas.Result.{on_ok_weaker, on_err_weaker}
 use Rattle.fl_flash.specs.Flash.{FlashState, begin_of, page_at, and_bytes, OthersStand, Programmed, TornProgram, Erased, TornErase, ProgramsPage, ErasesBlock}
 use Rattle.fl_flash.specs.Media.{next_count}
 use Rattle.fl_flash.specs.declared.flash.FlashFault.{FlashFault}
@@ -24,14 +25,6 @@ both_ways : {T E P : Type 0} (result : Result T E) → OnOk result P → OnErr r
 both_ways (Ok u) ok err = ok
 both_ways (Err e) ok err = err
 
-ok_map : {T E A B : Type 0} (result : Result T E) → (A → B) → OnOk result A → OnOk result B
-ok_map (Ok u) f h = f h
-ok_map (Err e) f h = tt
-
-err_map : {T E A B : Type 0} (result : Result T E) → (A → B) → OnErr result A → OnErr result B
-err_map (Ok u) f h = tt
-err_map (Err e) f h = f h
-
 module _ (ring : Ring) (f g : FlashState) (result : Result (Unit {0}) FlashFault) where
   room_some : 0 < room (shape_of ring)
   room_some = omega (arith, ring.served.per_block, sizes (shape_of ring) ring.served, two_blocks (shape_of ring) ring.served)
@@ -39,8 +32,8 @@ module _ (ring : Ring) (f g : FlashState) (result : Result (Unit {0}) FlashFault
   module _ (kind : Kind) (plain : is_erase kind ≡ false) (p from n : ℕ) (bytes : List ℕ) (at : p ≡ place (shape_of ring) n) (did : ProgramsPage f p from bytes result g) where
     pub others_by : IsTrue f.media.tells → OthersStand (page_at f) p (page_at g)
     others_by told = both_ways result
-        (ok_map result (λ (x : Programmed (page_at f) p from bytes (page_at g)). x.others) (did.ok told))
-        (err_map result (λ (x : TornProgram (page_at f) p from (length bytes) (page_at g)). x.others) (did.err told))
+        (on_ok_weaker result (λ (x : Programmed (page_at f) p from bytes (page_at g)). x.others) (did.ok told))
+        (on_err_weaker result (λ (x : TornProgram (page_at f) p from (length bytes) (page_at g)). x.others) (did.err told))
 
     counts_by : f.is_on ≡ true → Counts kind f g
     counts_by on = record {
@@ -68,7 +61,7 @@ module _ (ring : Ring) (f g : FlashState) (result : Result (Unit {0}) FlashFault
         → StepEnds (shape_of ring) kind before after rose device result g
     step_program before after rose device watched ok any exact =
         step_ends (shape_of ring) kind before after rose device f g watched (begin_of f p + from) (and_bytes (slice_range f.media.content (begin_of f p + from) (begin_of f p + from + length bytes)) bytes) (counts_by watched.on)
-        result (did.cut watched.on) did.cause (ok_map result ok (did.ok watched.told)) (err_map result any (did.err watched.told)) exact
+        result (did.cut watched.on) did.cause (on_ok_weaker result ok (did.ok watched.told)) (on_err_weaker result any (did.err watched.told)) exact
 
   module _ (kind : Kind) (erases : is_erase kind ≡ true) (b : ℕ) (block : f.geometry.block ≡ ring.per_block) (at : b ≡ ring.first_block + (ring.next / ring.per_block + 1) % ring.blocks) (did : ErasesBlock f b result g) where
     erase_counts : f.is_on ≡ true → Counts kind f g
@@ -95,8 +88,8 @@ module _ (ring : Ring) (f g : FlashState) (result : Result (Unit {0}) FlashFault
     operates_erase = record {
       goes = did.goes;
       outside = λ told. both_ways result
-          (ok_map result (λ (x : Erased (page_at f) (b * f.geometry.block) f.geometry.block f.geometry.page (page_at g)). outside_by x.below x.above) (did.ok told))
-          (err_map result (λ (x : TornErase (page_at f) (b * f.geometry.block) f.geometry.block (page_at g)). outside_by x.below x.above) (did.err told));
+          (on_ok_weaker result (λ (x : Erased (page_at f) (b * f.geometry.block) f.geometry.block f.geometry.page (page_at g)). outside_by x.below x.above) (did.ok told))
+          (on_err_weaker result (λ (x : TornErase (page_at f) (b * f.geometry.block) f.geometry.block (page_at g)). outside_by x.below x.above) (did.err told));
       cause = did.cause;
       off = did.off;
       reads = elim (cases_Bool f.is_on) [ inl on ↦ ap (λ (w : Work). w.reads) (did.counted on) | inr off ↦ ap (λ (x : FlashState). x.work.reads) (did.off off).1 ];
@@ -112,4 +105,4 @@ module _ (ring : Ring) (f g : FlashState) (result : Result (Unit {0}) FlashFault
         → StepEnds (shape_of ring) kind before after rose device result g
     step_erase before after rose device watched ok any exact =
         step_ends (shape_of ring) kind before after rose device f g watched (f.start + b * (f.geometry.block * f.geometry.page)) (replicate (f.geometry.block * f.geometry.page) 255) (erase_counts watched.on)
-        result (did.cut watched.on) did.cause (ok_map result ok (did.ok watched.told)) (err_map result any (did.err watched.told)) exact
+        result (did.cut watched.on) did.cause (on_ok_weaker result ok (did.ok watched.told)) (on_err_weaker result any (did.err watched.told)) exact

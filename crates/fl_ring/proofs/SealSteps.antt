@@ -6,10 +6,11 @@ use Rattle.fl_model.specs.Work.{Device, Body, Mark, Erase, counted, PartEnd, Who
 use Rattle.fl_ring.specs.declared.ring.Ring.{Ring}
 use Rattle.fl_ring.specs.Operations.{change, seal_kinds}
 use Rattle.fl_ring.specs.Place.{shape_of, StandsFor}
-use Rattle.fl_ring.specs.Ring.{Shape, RingState, place, is_due_at, begun, appended, sealed, erased}
+use Rattle.fl_ring.specs.Ring.{Shape, RingState, place, oldest, is_due_at, begun, appended, sealed, erased}
 use Rattle.fl_ring.specs.Repairing.{ahead_first}
 use Rattle.fl_ring.specs.Sealing.{IsReady, AnswersEnd, Performed, Seals, ErasesWhere, SealCalls}
 use Rattle.fl_ring.specs.Step.{StepDone, StepEnds}
+use Rattle.fl_ring.proofs.Bodies.{kept-next, kept-torn}
 use Rattle.fl_ring.proofs.NumbersAfterSeal.{due_as}
 use Rattle.fl_ring.proofs.OperationsInTurn.{performed_err, performed_more, performed_none, performed_last}
 use Rattle.fl_ring.proofs.Whole.{dirty_due, whole_seal}
@@ -19,6 +20,18 @@ pub whole_end : (end : PartEnd RingState) (u : Unit {0}) (new : FlashState) → 
 whole_end Whole u new answer = refl
 whole_end (CutIn before) u new answer = absurd (let e = answer.0 in cc)
 whole_end (FailedIn before) u new answer = absurd (let e = answer.0 in cc)
+
+-- what a whole seal leaves
+pub record IsEnd (r : Shape) (s : RingState) (body : List ℕ) (left : RingState) : Type 0 where
+  pub whole : left.torn ≡ false
+  pub clean : left.dirty ≡ false
+  pub next_is : left.next ≡ s.next + 1
+  pub oldest_is : oldest left ≡ oldest (sealed r s body)
+
+pub seal_end : (r : Shape) (s : RingState) (body : List ℕ) (rose : Bool) (device : Device) (u : Unit {0}) (new : FlashState) (h : Performed r (change r body) rose (seal_kinds r s body) device s (Ok u) new) → IsEnd r s body h.now.state
+seal_end r s body rose device u new h =
+    subst (IsEnd r s body) (sym (whole_seal r s body rose device h.now h.did (whole_end h.now.end u new h.answer)))
+    (record { whole = kept-torn r s (Some body); clean = refl; next_is = kept-next r s (Some body); oldest_is = refl })
 
 pub seals_of : (s : RingState) (body : List ℕ) (rose : Bool) (device : Device) (old : Ring) (result : Result (Unit {0}) FlashFault) (ring : Ring) (new : FlashState)
     → Performed (shape_of old) (change (shape_of old) body) rose (seal_kinds (shape_of old) s body) device s result new → OnOk result (StandsFor ring (erased (sealed (shape_of old) s body)))

@@ -1,13 +1,13 @@
 -- Committed pages begin with their numbers after a seal or repairs, however these ended.
 use Rattle.std.proofs.Common.{◌≡◌, ℕ, ◌+◌, ◌≤◌, Bool, true, false, if◌then◌else◌, List, [], ◌∷◌, ◌++◌, length, drop, None, sym, subst, arith, length-append, length-drop}
+use Rattle.fl_model.specs.Within.{all_done}
 use Rattle.fl_model.specs.Work.{Kind, Body, Mark, VoidMark, Erase, Device, PartProgress, PartPerforms}
+use Rattle.fl_model.proofs.Fronts.{front-left}
 use Rattle.fl_ring.specs.Newest.{number_of}
 use Rattle.fl_ring.specs.Numbers.{IsNumbered}
 use Rattle.fl_ring.specs.Operations.{change, seal_kinds, repair_kinds}
 use Rattle.fl_ring.specs.Ring.{Shape, RingState, count, is_due, appended, sealed, voided, unerased, erased}
-use Rattle.fl_ring.proofs.Left.{front_done}
 use Rattle.fl_ring.proofs.Numbered.{numbered_sealed, numbered_voided}
-use Rattle.fl_ring.proofs.Whole.{all_done}
 
 -- the operations of repairs
 abbrev pub AreRepairs : List Kind → Type 0
@@ -59,7 +59,7 @@ all_numbered r body (Erase ∷ kinds) s are numbered = all_numbered r body kinds
 pub repairs_numbered : (r : Shape) (body : List ℕ) (rose : Bool) (kinds : List Kind) (device : Device) (s : RingState) (now : PartProgress RingState) → AreRepairs kinds → count s ≤ s.next → IsNumbered s
     → PartPerforms (λ kind. kind) (change r body) rose kinds device s now → IsNumbered now.state
 repairs_numbered r body rose kinds device s now are few numbered did =
-    let done = front_done (change r body) rose kinds device s now did in
+    let done = front-left (λ kind. kind) (change r body) rose kinds device s now did in
     subst IsNumbered (sym done.state) (all_numbered r body done.front s (front_repairs done.front done.others (subst AreRepairs done.split are)) (record { few = few; numbers = numbered })).numbers
 
 erases_numbered : (r : Shape) (body : List ℕ) (kinds others : List Kind) (b : Bool) (s : RingState) → (if b then Erase ∷ [] else []) ≡ kinds ++ others → IsNumbered s → IsNumbered (all_done (change r body) kinds s)
@@ -87,5 +87,5 @@ seal_front r body (Erase ∷ front) others b s split few numbered number = absur
 pub seal_numbered : (r : Shape) (body : List ℕ) (rose : Bool) (device : Device) (s : RingState) (now : PartProgress RingState) → count s ≤ s.next → IsNumbered s → number_of body ≡ s.next
     → PartPerforms (λ kind. kind) (change r body) rose (seal_kinds r s body) device s now → IsNumbered now.state
 seal_numbered r body rose device s now few numbered number did =
-    let done = front_done (change r body) rose (seal_kinds r s body) device s now did in
+    let done = front-left (λ kind. kind) (change r body) rose (seal_kinds r s body) device s now did in
     subst IsNumbered (sym done.state) (seal_front r body done.front done.others (sealed r s body).dirty s done.split few numbered number)

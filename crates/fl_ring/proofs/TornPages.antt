@@ -1,6 +1,6 @@
 -- The page after the kept ones of a ring is torn where a search for its numbers says so.
-use Rattle.std.proofs.Common.{◌≡◌, ℕ, zero, suc, ◌+◌, ◌-◌, ◌*◌, ◌/◌, ◌%◌, ◌<◌, ◌≤◌, min, Bool, true, false, not, ◌==◌, if◌then◌else◌, Option, Some, None, inl, inr, refl, sym, ◌∙◌, ap, subst, arith}
-use Rattle.std.proofs.Math.Nat.{mul-le-mul_right, mod-eq_of_lt, add-mod_right, mul-add-mod_self_right, min-le_right}
+use Rattle.std.proofs.Common.{◌≡◌, ℕ, zero, suc, ◌+◌, ◌-◌, ◌*◌, ◌%◌, ◌<◌, ◌≤◌, min, Bool, true, false, not, ◌==◌, if◌then◌else◌, Option, Some, None, inl, inr, refl, sym, ◌∙◌, ap, subst, arith}
+use Rattle.std.proofs.Math.Nat.{mul-le-mul_right, mod-eq_of_lt, mod-add-mod, add-mod_right, min-le_right}
 use Rattle.std.proofs.lemmas.Nat.{mod-mul-add}
 use Rattle.std.proofs.lemmas.Bool.{cases_lt, cases_eq, cases_Bool, and_parts, true≢false, cond-true, cond-false, eq-eqb, ne_eqb, not-true}
 use Rattle.fl_flash.specs.Flash.{FlashState}
@@ -13,7 +13,7 @@ use Rattle.fl_ring.specs.Head.{seals, page_in, one, fulls, before, is_head, ends
 use Rattle.fl_ring.specs.Looking.{state_at}
 use Rattle.fl_ring.specs.Numbers.{next_by, NumbersFit}
 use Rattle.fl_ring.specs.Ring.{Shape, place, room}
-use Rattle.fl_ring.proofs.Modulo.{parts, more, last_block}
+use Rattle.fl_ring.proofs.Modulo.{more, last_block}
 use Rattle.fl_ring.proofs.SamePlaces.{in_block, least_is_alike}
 
 one_none : (b : Bool) → one b ≡ 0 → b ≡ false
@@ -55,18 +55,17 @@ module _ (full : ℕ → Bool) (B : ℕ) where
         not-true (full b) (and_parts (full (before B b)) (not (full b)) (last_is_head B (λ e. absurd (omega (arith, e, ends_one))))).1
   ]
 
-torn_of : (s : PageState) → seals s ≡ false → blanks s ≡ false → s ≡ Torn
+pub torn_of : (s : PageState) → seals s ≡ false → blanks s ≡ false → s ≡ Torn
 torn_of Blank unsealed some = absurd (true≢false some)
 torn_of Torn unsealed some = refl
 torn_of Committed unsealed some = absurd (true≢false unsealed)
 torn_of Void unsealed some = absurd (true≢false unsealed)
 
--- a rest may be taken before an addition
-rest_first : (R n k : ℕ) → (n + k) % R ≡ (n % R + k) % R
-rest_first R n k =
-    let pn = parts R n in
-    let split : n + k ≡ n / R * R + (n % R + k) = omega arith in
-    ap (λ (i : ℕ). i % R) split ∙ mul-add-mod_self_right (n / R) R (n % R + k)
+-- a number that stands so far back is the place itself with so many more
+pub back_mod : (M number at back : ℕ) → at < M → back ≤ M → number % M ≡ (at + M - back) % M → (number + back) % M ≡ at
+back_mod M number at back lt few fits =
+    let sum : at + M - back + back ≡ at + M = omega (arith, few) in
+    sym (mod-add-mod number M back) ∙ ap (λ (k : ℕ). (k + back) % M) fits ∙ mod-add-mod (at + M - back) M back ∙ ap (λ (k : ℕ). k % M) sum ∙ add-mod_right at M ∙ mod-eq_of_lt lt
 
 -- by what an option is
 by_option : {A : Type 0} (P : Option A → Type 0) → P None → ((x : A) → P (Some x)) → (o : Option A) → P o
@@ -115,18 +114,8 @@ module _ (f : FlashState) (r : Shape) (at_least : ℕ) (some : 0 < r.blocks) (nu
       ap (λ (n : ℕ). n % room r) found.next
       ∙ by_option (λ newest. NewestIs f r found.front newest → NumbersFit r at (kept_at f r found.front) at_least found.front.torn newest → next_by r at (kept_at f r found.front) at_least newest % room r ≡ at)
       (λ is fits. least_is_alike (room r) at (at_least + kept_at f r found.front) (omega (arith, at_within)) ∙ mod-eq_of_lt at_within)
-      (λ x is fits. by_newest x.number x.back (omega (arith, is.within, kept_few)) fits.0)
+      (λ x is fits. back_mod (room r) x.number at x.back at_within (omega (arith, is.within, kept_few)) fits.0)
       found.newest found.newest_is found.fits
-    where
-      by_newest : (number back : ℕ) → back ≤ room r → number % room r ≡ (at + room r - back) % room r → (number + back) % room r ≡ at
-      by_newest number back within e =
-          let all : at + room r - back + back ≡ at + room r = omega (arith, within) in
-          rest_first (room r) number back
-          ∙ ap (λ (k : ℕ). (k + back) % room r) e
-          ∙ sym (rest_first (room r) (at + room r - back) back)
-          ∙ ap (λ (k : ℕ). k % room r) all
-          ∙ add-mod_right at (room r)
-          ∙ mod-eq_of_lt at_within
 
   -- its place in its block
   pub next_sealed : numbers.next % r.per_block ≡ found.front.sealed

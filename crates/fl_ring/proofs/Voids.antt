@@ -1,6 +1,6 @@
 -- How the program of a void mark ends for the ring.
-use Rattle.std.proofs.Common.{◌≡◌, ℕ, ◌+◌, ◌-◌, ◌/◌, ◌≤◌, ◌<◌, true, false, List, [], ◌∷◌, length, take, slice_range, None, inl, inr, refl, sym, ◌∙◌, ap, subst, arith}
-use Rattle.std.proofs.lemmas.Bool.{cases_Bool, MatchBool-at_true}
+use Rattle.std.proofs.Common.{◌≡◌, ℕ, ◌+◌, ◌-◌, ◌/◌, ◌≤◌, ◌<◌, true, List, [], ◌∷◌, length, take, slice_range, None, inl, inr, refl, sym, ◌∙◌, ap, subst, arith}
+use Rattle.std.proofs.lemmas.Bool.{MatchBool-at_true}
 use Rattle.fl_base.specs.Bytes.{splice}
 use Rattle.fl_base.specs.declared.types.CutKind.TheVariants.{Before, After, Half, Noise}
 use Rattle.fl_flash.specs.Flash.{FlashState, Goes, begin_of, page_at, pages, and_bytes, OthersStand, Programmed, TornProgram}
@@ -10,11 +10,10 @@ use Rattle.fl_model.specs.Work.{VoidMark}
 use Rattle.fl_ring.specs.declared.ring.Ring.{Ring}
 use Rattle.fl_ring.specs.Place.{shape_of}
 use Rattle.fl_ring.specs.Ring.{RingState, place, OnRing, voided}
-use Rattle.fl_ring.proofs.Added.{kept_on}
+use Rattle.fl_ring.proofs.Added.{kept_on, torn_still}
 use Rattle.fl_ring.proofs.CutPages.{Reaches, nothing_written, same_content, written_page, programs_there, splice_programmed}
 use Rattle.fl_ring.proofs.Lengths.{page_length}
 use Rattle.fl_ring.proofs.StepEnds.{OneOf, Exact, either_of}
-use Rattle.fl_ring.proofs.Steps.{on_torn}
 use Rattle.fl_ring.proofs.VoidBytes.{void_or_torn, void_programmed, half_void, last_four}
 
 abbrev zeros : List ℕ
@@ -31,22 +30,12 @@ module _ (ring : Ring) (s : RingState) (f g : FlashState) (p : ℕ) (at : p ≡ 
   old_torn : state_of_page (page_at f p) ≡ Torn
   old_torn = ap (λ (q : ℕ). state_of_page (page_at f q)) at ∙ MatchBool-at_true _ _ torn on.head
 
-  whole : record s { torn = true } ≡ s
-  whole = ap (λ b. record s { torn = b }) (sym torn)
-
-  tidy : s.dirty ≡ false
-  tidy = elim (cases_Bool s.dirty) [ inl d ↦ absurd (on.ring.not_both torn d) | inr d ↦ d ]
-
-  torn_still : OthersStand (page_at f) p (page_at g) → state_of_page (page_at g p) ≡ Torn → OnRing (shape_of ring) (page_at g) s
-  torn_still others is = subst (OnRing (shape_of ring) (page_at g)) whole
-      (on_torn (shape_of ring) (page_at f) (page_at g) s ring.served on tidy (subst (λ (q : ℕ). OthersStand (page_at f) q (page_at g)) at others) (ap (λ (q : ℕ). state_of_page (page_at g q)) (sym at) ∙ is))
-
   void_now : OthersStand (page_at f) p (page_at g) → state_of_page (page_at g p) ≡ Void → OnRing (shape_of ring) (page_at g) (voided (shape_of ring) s)
   void_now others is = kept_on (shape_of ring) (page_at f) (page_at g) s None ring.served on torn (subst (λ (q : ℕ). OthersStand (page_at f) q (page_at g)) at others) (ap (λ (q : ℕ). state_of_page (page_at g q)) (sym at) ∙ is)
 
   pub void_any : TornProgram (page_at f) p (ring.size - 4) 4 (page_at g) → OneOf (shape_of ring) s (voided (shape_of ring) s) g
   void_any lost = elim (void_or_torn (page_at f p) (page_at g p) ring.size old_len (lost.here.size ∙ old_len) long old_torn lost.here.before) [
-    | inl still ↦ inl (torn_still lost.others still)
+    | inl still ↦ inl (torn_still (shape_of ring) (page_at f) (page_at g) s p at ring.served on torn lost.others still)
     | inr is ↦ inr (void_now lost.others is)
   ]
 

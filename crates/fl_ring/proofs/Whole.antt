@@ -1,25 +1,10 @@
 -- The state that operations leave where all of them are done.
-use Rattle.std.proofs.Common.{◌≡◌, ℕ, Bool, true, false, if◌then◌else◌, List, [], ◌∷◌, ◌++◌, drop, Option, Some, None, inl, inr, refl, sym, ◌∙◌, ap}
-use Rattle.fl_base.specs.declared.types.CutKind.{CutKind}
-use Rattle.fl_model.specs.Work.{Kind, VoidMark, Erase, Device, cut_now, counted, Whole, PartProgress, PartFirst, PartPerforms}
+use Rattle.std.proofs.Common.{◌≡◌, ℕ, Bool, true, false, if◌then◌else◌, List, [], ◌∷◌, ◌++◌, drop, refl, sym, ◌∙◌, ap}
+use Rattle.fl_model.specs.Within.{all_done}
+use Rattle.fl_model.specs.Work.{VoidMark, Erase, Device, Whole, PartProgress, PartPerforms}
+use Rattle.fl_model.proofs.Performs.{performs-whole}
 use Rattle.fl_ring.specs.Operations.{change, seal_kinds, repair_kinds}
 use Rattle.fl_ring.specs.Ring.{Shape, RingState, is_due, trimmed, sealed, voided, repaired, erased}
-
--- the operations in order
-abbrev pub all_done : (Kind → RingState → RingState) → List Kind → RingState → RingState
-all_done change [] s = s
-all_done change (kind ∷ kinds) s = all_done change kinds (change kind s)
-
-first_done : (rose : Bool) (o : Option CutKind) (kind : Kind) (device : Device) (s t : RingState) (now : PartProgress RingState) (Others P : Type 0) → PartFirst rose o kind device s t now Others → now.end ≡ Whole → (Others → P) → P
-first_done rose (Some cut) kind device s t now Others P fell whole go_on = absurd (cc (fell.0, whole))
-first_done rose None kind device s t now Others P (inl failed) whole go_on = absurd (cc (failed.1, whole))
-first_done rose None kind device s t now Others P (inr others) whole go_on = go_on others
-
-pub whole_state : (change : Kind → RingState → RingState) (rose : Bool) (kinds : List Kind) (device : Device) (s : RingState) (now : PartProgress RingState)
-    → PartPerforms (λ kind. kind) change rose kinds device s now → now.end ≡ Whole → now.state ≡ all_done change kinds s
-whole_state change rose [] device s now did whole = did.2
-whole_state change rose (kind ∷ kinds) device s now did whole =
-    first_done rose (cut_now device) kind device s (change kind s) now _ (now.state ≡ all_done change kinds (change kind s)) did whole (λ others. whole_state change rose kinds (counted kind device) (change kind s) now others whole)
 
 pub erased_clean : (s : RingState) → s.dirty ≡ false → erased s ≡ s
 erased_clean s e = ap (λ b. record s { dirty = b }) (sym e)
@@ -49,7 +34,7 @@ seal_done r s body = go (sealed r s body).dirty refl
 -- a whole seal
 pub whole_seal : (r : Shape) (s : RingState) (body : List ℕ) (rose : Bool) (device : Device) (now : PartProgress RingState)
     → PartPerforms (λ kind. kind) (change r body) rose (seal_kinds r s body) device s now → now.end ≡ Whole → now.state ≡ erased (sealed r s body)
-whole_seal r s body rose device now did whole = whole_state (change r body) rose (seal_kinds r s body) device s now did whole ∙ seal_done r s body
+whole_seal r s body rose device now did whole = (performs-whole (λ kind. kind) (change r body) rose (seal_kinds r s body) device s now did whole).0 ∙ seal_done r s body
 
 repair_done : (r : Shape) (s : RingState) (body : List ℕ) → all_done (change r body) (repair_kinds r s) s ≡ repaired r s
 repair_done r s body = go s.torn refl
@@ -65,4 +50,4 @@ repair_done r s body = go s.torn refl
 -- a whole repair
 pub whole_repair : (r : Shape) (s : RingState) (body : List ℕ) (rose : Bool) (device : Device) (now : PartProgress RingState)
     → PartPerforms (λ kind. kind) (change r body) rose (repair_kinds r s) device s now → now.end ≡ Whole → now.state ≡ repaired r s
-whole_repair r s body rose device now did whole = whole_state (change r body) rose (repair_kinds r s) device s now did whole ∙ repair_done r s body
+whole_repair r s body rose device now did whole = (performs-whole (λ kind. kind) (change r body) rose (repair_kinds r s) device s now did whole).0 ∙ repair_done r s body

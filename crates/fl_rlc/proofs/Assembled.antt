@@ -1,24 +1,30 @@
 -- A table with a log stands, or rests, where the table without it does and its log does.
-use Rattle.std.proofs.Common.{◌≡◌, ℕ, ◌+◌, true, false, Option, Some, IfSome, List, [], refl, sym, ◌∙◌, ap, subst, arith}
+use Rattle.std.proofs.Common.{◌≡◌, ℕ, ◌+◌, true, false, Option, Some, IfSome, List, [], refl, sym, ◌∙◌, ap, subst, arith, None, is_some}
 use Rattle.std.proofs.lemmas.Bool.{lt-ltb}
 use Rattle.fl_flash.specs.Flash.{FlashState, page_at}
 use Rattle.fl_model.specs.Bare.{bare, bare_table, log_of, beside}
 use Rattle.fl_model.specs.Facts.{IsTable}
 use Rattle.fl_model.specs.Image.{IsRingImage, HoldsPage, HoldsLogged}
 use Rattle.fl_model.specs.Log.{IsLog}
-use Rattle.fl_model.specs.Record.{Plan, blocks_of, has_log}
+use Rattle.fl_model.specs.Record.{Plan, blocks_of, has_log, has_var}
 use Rattle.fl_model.specs.Ring.{Ring}
 use Rattle.fl_model.specs.Table.{Table, Entry, LogRing, shape_of, has_rows, log_pages, lose}
+use Rattle.fl_machine.specs.Found.{HasRoom}
 use Rattle.fl_machine.proofs.RecordsChange.{Any}
 use Rattle.fl_machine.proofs.Logs.{core, IsFine, lost}
 use Rattle.fl_machine.proofs.LogTables.{Between, between-fine}
+use Rattle.fl_parts.specs.Blobs.{ArePlanned}
 use Rattle.fl_parts.specs.Pages as pages
 use Rattle.fl_parts.specs.Pages.{bytes_in}
+use Rattle.fl_table.specs.Memory as memory
 use Rattle.fl_table.specs.Standing as table
 use Rattle.fl_table.specs.declared.table.Table as code
+use Rattle.fl_var.specs.declared.var_data.VarData.{VarData}
 use Rattle.fl_parts.proofs.Bare.{bare-table}
+use Rattle.fl_parts.proofs.BlobsOfTable.{planned-none}
 use Rattle.fl_parts.proofs.TablePages.{lost-twice}
 use Rattle.fl_parts.proofs.Plain.{plain-lose, table-facts, table-parts}
+use Rattle.fl_table.proofs.SealAnswers.{planned-shape}
 use Rattle.fl_rlc.specs.Logged.{Stands, Rests, LogStands, IsKept}
 use Rattle.fl_rlc.specs.Memory.{page_in, IsPlanned}
 use Rattle.fl_rlc.specs.Pages.{log_body, IsLogRing}
@@ -43,6 +49,21 @@ bare-same plan t none facts =
 -- the log of a plan
 pub log-there : (l : RecordLog) (first : ℕ) (plan : Plan) → IsPlanned l first plan → has_log plan ≡ true
 log-there l first plan h = lt-ltb 0 plan.log_blocks (omega (arith, h.blocks, l.some_blocks))
+
+-- .. which has room
+pub has-room : {KNOTS SLOTS : ℕ} (t : LoggedTable KNOTS SLOTS) (l : RecordLog) (first : ℕ) (plan : Plan) → t.log ≡ Some l → memory.IsPlanned t.table first (bare plan) → IsPlanned l (first + blocks_of (bare plan)) plan → HasRoom plan
+has-room t l first plan t_is planned log-planned =
+    let shape = planned-shape t.table first (bare plan) planned in
+    record {
+      blocks = shape.blocks;
+      pages = shape.pages;
+      log_blocks = λ some. omega (arith, log-planned.blocks, l.some_blocks);
+      no_var = λ some. by-blobs t.table.blobs (t.no_blobs (ap (λ (o : Option RecordLog). is_some o) t_is)) planned.var;
+    }
+  where
+    by-blobs : (o : Option VarData) → is_some o ≡ false → ArePlanned o (first + plan.data_blocks + plan.index_blocks) (bare plan) → has_var plan ≡ false
+    by-blobs None e p = planned-none (first + plan.data_blocks + plan.index_blocks) (bare plan) p
+    by-blobs (Some v) e p = cc
 
 ring-facts : (l : RecordLog) (first : ℕ) (plan : Plan) (t : Table) (ring : Ring) (at : ℕ → List ℕ) → IsPlanned l first plan → t.log ≡ Some ring → IsLogRing plan (log_pages t) ring at → (has_rows t.log ≡ false → t.logged ≡ []) → IsLog t → LogFacts plan t
 ring-facts l first plan t ring at planned is h some logged = record {

@@ -4,7 +4,7 @@ use Rattle.std.specs.List.{AllByRecursion, last_or, slice_get}
 use Rattle.std.specs.Option.{option_map, unwrap_or}
 use Rattle.std.proofs.Math.Nat.{lt_trans, zero-div}
 use Rattle.std.proofs.Math.Seq.{take-length}
-use Rattle.std.proofs.lemmas.Bool.{le-ltb, lt-leb, ltb-true, eqb-true}
+use Rattle.std.proofs.lemmas.Bool.{le-ltb, lt-leb, ltb-true, eqb-true, lt-ltb}
 use Rattle.std.proofs.lemmas.List.{append-nil}
 use Rattle.std.proofs.lemmas.Option.{none-some}
 use Rattle.fl_model.specs.Bare.{bare_table}
@@ -13,7 +13,6 @@ use Rattle.fl_model.specs.Mount.{joined}
 use Rattle.fl_model.specs.Record.{Plan, has_var, key_limit, rows_per_page, content_per_page}
 use Rattle.fl_model.specs.Table.{Table, Entry, RingName, VarRing, LogRing, Refusal, BadKey, after_seals, is_after, is_rows_spent, owed, written, refusal_of, put_joined, put_record, with_room, with_record, join_seals, log_seals, table_seals, refuse_if}
 use Rattle.fl_model.proofs.Lists.{last_or-push}
-use Rattle.fl_model.proofs.CopiesAreParts.{lt-true}
 use Rattle.fl_machine.proofs.Logs.{filter_all}
 use Rattle.fl_machine.proofs.LogTables.{takes}
 use Rattle.fl_rlc.specs.Joining.{more, taken, all_taken}
@@ -42,14 +41,14 @@ ascend-of (e ∷ es) h = (after es (λ j b k. h 0 (suc j) e b (omega arith) refl
     after (x ∷ xs) k = (k 0 x refl, after xs (λ j b m. k (suc j) b m))
 
 above-one : (others : List Entry) (e x : Entry) → e.kept.key < x.kept.key → is_after (others ++ e ∷ []) x ≡ true
-above-one others e x lt = ap (λ (o : Option Entry). unwrap_or (option_map (λ last. nat_lt last.kept.key x.kept.key) o) true) (last_or-push None others e) ∙ lt-true e.kept.key x.kept.key lt
+above-one others e x lt = ap (λ (o : Option Entry). unwrap_or (option_map (λ last. nat_lt last.kept.key x.kept.key) o) true) (last_or-push None others e) ∙ lt-ltb e.kept.key x.kept.key lt
 
 above-later : (others : List Entry) (e x : Entry) → is_after others e ≡ true → e.kept.key < x.kept.key → is_after others x ≡ true
 above-later others e x h lt = by-last (last_or None others) h
   where
     by-last : (o : Option Entry) → unwrap_or (option_map (λ last. nat_lt last.kept.key e.kept.key) o) true ≡ true → unwrap_or (option_map (λ last. nat_lt last.kept.key x.kept.key) o) true ≡ true
     by-last None k = refl
-    by-last (Some w) k = lt-true w.kept.key x.kept.key (lt_trans (ltb-true w.kept.key e.kept.key k) lt)
+    by-last (Some w) k = lt-ltb w.kept.key x.kept.key (lt_trans (ltb-true w.kept.key e.kept.key k) lt)
 
 all-above : (others : List Entry) (e : Entry) (es : List Entry) → is_after others e ≡ true → AreAfter e.kept.key es → AllByRecursion (λ x. IsTrue (is_after others x)) es
 all-above others e [] h k = tt
@@ -193,7 +192,7 @@ accepted-more plan t e ok =
   where
     by-last : (o : Option Entry) → ((w : Entry) → o ≡ Some w → w.kept.key < e.kept.key) → unwrap_or (option_map (λ last. nat_lt last.kept.key e.kept.key) o) true ≡ true
     by-last None k = refl
-    by-last (Some w) k = lt-true w.kept.key e.kept.key (k w refl)
+    by-last (Some w) k = lt-ltb w.kept.key e.kept.key (k w refl)
 
 -- it stays without variable data
 pub plain-taken : (plan : Plan) (t : Table) (e : Entry) → IsPlain plan t → IsPlain plan (taken t e)

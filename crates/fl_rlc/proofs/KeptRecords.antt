@@ -1,18 +1,18 @@
 -- What the log of a mounted table has, as the laws on logs speak of it.
-use Rattle.std.proofs.Common.{◌≡◌, ℕ, zero, suc, ◌+◌, ◌-◌, ◌<◌, ◌≤◌, inl, inr, Bool, true, false, nat_lt, Option, Some, None, IfSome, IsTrue, List, [], ◌∷◌, ◌++◌, length, take, drop, slice_get, refl, sym, ◌∙◌, ap, subst, arith}
+use Rattle.std.proofs.Common.{◌≡◌, ℕ, ◌+◌, ◌-◌, ◌<◌, inl, inr, Bool, false, Option, Some, None, IfSome, IsTrue, List, [], ◌∷◌, ◌++◌, length, take, drop, slice_get, sym, ◌∙◌, ap, subst, arith, length-take}
 use Rattle.std.specs.List.{last_or}
-use Rattle.std.specs.Option.{option_map, unwrap_or}
-use Rattle.std.proofs.lemmas.Bool.{lt-ltb}
 use Rattle.std.proofs.lemmas.Option.{none-some}
 use Rattle.fl_model.specs.Facts.{IsTable}
 use Rattle.fl_model.specs.Log.{IsLog, IsSafe}
 use Rattle.fl_model.specs.Record.{Plan}
 use Rattle.fl_model.specs.Ring.{Ring}
-use Rattle.fl_model.specs.Table.{Table, Entry, is_after}
+use Rattle.fl_model.specs.Table.{Table, is_after}
 use Rattle.fl_model.proofs.Lists.{slice_get-drop, slice_get-front, last_or-get}
 use Rattle.fl_machine.proofs.RecordsChange.{Any, adds-all, sure_in}
-use Rattle.fl_machine.proofs.Logs.{core, log_in, IsFine, IsThere, IsSafePage, AreAbove, ascending-tops, front_of, rest_of}
+use Rattle.fl_machine.proofs.Logs.{core, log_in, IsFine, IsThere, IsSafePage, AreAbove, front_of, rest_of}
+use Rattle.fl_machine.proofs.LogSeals.{ascending-tops}
 use Rattle.fl_machine.proofs.LogTables.{Between, Resting, Pending}
+use Rattle.fl_machine.proofs.LogJoins.{after-above}
 use Rattle.fl_parts.proofs.EntriesFit.{each-from}
 use Rattle.fl_rlc.specs.Logged.{IsKept}
 
@@ -21,27 +21,14 @@ last-at : {X : Type 0} (xs : List X) (w : X) → last_or None xs ≡ Some w → 
 last-at [] w e = absurd (none-some w e)
 last-at (x ∷ xs) w e = (length xs, omega arith, sym (last_or-get None x xs) ∙ e)
 
-above-last : (others : List Entry) (e : Entry) → ((w : Entry) → last_or None others ≡ Some w → w.kept.key < e.kept.key) → IsTrue (is_after others e)
-above-last others e h = by-last (last_or None others) refl
-  where
-    by-last : (o : Option Entry) → last_or None others ≡ o → unwrap_or (option_map (λ last. nat_lt last.kept.key e.kept.key) o) true ≡ true
-    by-last None k = refl
-    by-last (Some w) k = lt-ltb w.kept.key e.kept.key (h w k)
-
 -- pending records are above those of data pages
 pub pending-above : (plan : Plan) (table : Table) → IsTable plan table → AreAbove (front_of (core table)) (rest_of (core table))
 pending-above plan table facts =
     let n = length table.entries - table.pending in
     each-from (λ e. IsTrue (is_after (take n table.entries) e)) (drop n table.entries)
-    (λ j e at. above-last (take n table.entries) e (λ w last.
+    (λ j e at. after-above (take n table.entries) e (λ w last.
     let k = last-at (take n table.entries) w last in
-    facts.ascending k.0 (length table.entries - table.pending + j) w e (omega (arith, k.1, length-front n table.entries)) (slice_get-front n table.entries k.0 w k.2) (sym (slice_get-drop n table.entries j) ∙ at)))
-  where
-    length-front : {X : Type 0} (n : ℕ) (xs : List X) → length (take n xs) ≤ n
-    length-front zero [] = omega arith
-    length-front zero (x ∷ xs) = omega arith
-    length-front (suc n) [] = omega arith
-    length-front (suc n) (x ∷ xs) = let k = length-front n xs in omega (arith, k)
+    facts.ascending k.0 (length table.entries - table.pending + j) w e (omega (arith, k.1, length-take n table.entries)) (slice_get-front n table.entries k.0 w k.2) (sym (slice_get-drop n table.entries j) ∙ at)))
 
 -- the facts of a table with a log, and those of its core
 pub fine-of : (plan : Plan) (table : Table) (ring : Ring) → table.log ≡ Some ring → IsTable plan table → IsFine (core table)

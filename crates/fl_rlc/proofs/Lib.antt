@@ -11,7 +11,6 @@ pub mod KeptRecords
 pub mod PutRows
 pub mod Joined
 pub mod OfferedRecords
-pub mod RowValues
 pub mod TakenRecord
 pub mod NewestRead
 pub mod Stops

@@ -1,19 +1,19 @@
 -- How the mount of a table with a log ends, whatever records the log has.
-use Rattle.std.proofs.Common.{◌≡◌, ℕ, ◌+◌, Bool, true, false, cond, Option, Some, List, [], ◌∷◌, ◌++◌, Ok, Err, map, sym, ◌∙◌, ap, subst, refl, arith, inl, inr, ◌⊎◌}
+use Rattle.std.proofs.Common.{◌≡◌, ℕ, ◌+◌, Bool, true, cond, Option, Some, List, [], ◌∷◌, ◌++◌, Ok, Err, map, sym, ◌∙◌, ap, subst, refl, arith, inl, inr, ◌⊎◌}
 use Rattle.std.proofs.lemmas.List.{length-map}
 use Rattle.fl_flash.specs.Flash.{FlashState, page_at}
 use Rattle.fl_flash.specs.declared.flash.FlashFault.{FlashFault}
 use Rattle.fl_flash.specs.declared.flash.FlashFault.TheVariants.{Media}
-use Rattle.fl_model.specs.Bare.{bare, bare_table, Log, log_of, beside, end_beside, progress_beside, mount_beside, AreBare}
+use Rattle.fl_model.specs.Bare.{bare, bare_table, Log, log_of, beside, end_beside, progress_beside, mount_beside}
 use Rattle.fl_model.specs.Facts.{IsTable}
 use Rattle.fl_model.specs.Mount.{Of, Replay, Turn, turns_of, rings_of, ready}
-use Rattle.fl_model.specs.Record.{Plan, blocks_of, has_index, has_log, has_var, row_layout}
+use Rattle.fl_model.specs.Record.{Plan, blocks_of, has_log, row_layout}
 use Rattle.fl_model.specs.Ring.{Ring}
 use Rattle.fl_model.specs.Row.{stored_row}
-use Rattle.fl_model.specs.Table.{Table, Entry, RingName, DataRing, IndexRing, VarRing, LogRing, has_rows, log_pages, lose, pending_entries}
+use Rattle.fl_model.specs.Table.{Table, Entry, RingName, LogRing, has_rows, log_pages, lose, pending_entries}
 use Rattle.fl_model.specs.Within.{TableMounts, TableMountEnd, TableMounted, TableStopped, TableUnread}
 use Rattle.fl_model.specs.Work.{Device, PartEnd, Whole, CutIn, FailedIn}
-use Rattle.fl_model.proofs.Bare.{bare-tables}
+use Rattle.fl_model.proofs.Bare.{bare-tables, rings-bare}
 use Rattle.fl_page.specs.Writer.{Gathers}
 use Rattle.fl_table.specs.Memory as table_words
 use Rattle.fl_table.specs.Mounting.{OutsideStands}
@@ -41,16 +41,6 @@ use Rattle.fl_rlc.proofs.Assembled.{bare-same, log-there, stands-kept}
 use Rattle.fl_rlc.proofs.Frames.{log-still}
 use Rattle.fl_rlc.proofs.Paid.{logged-tops}
 use Rattle.fl_rlc.proofs.PutRows.{none-left, pending-many}
-
--- all rings but the log
-rings-bare : (plan : Plan) → AreBare (rings_of plan)
-rings-bare plan = by-tests (has_index plan) (has_var plan)
-  where
-    by-tests : (a b : Bool) → AreBare ((cond a (IndexRing ∷ []) []) ++ DataRing ∷ [] ++ (cond b (VarRing ∷ []) []))
-    by-tests true true = (tt, (tt, (tt, tt)))
-    by-tests true false = (tt, (tt, tt))
-    by-tests false true = (tt, (tt, tt))
-    by-tests false false = (tt, tt)
 
 turns-with : (plan : Plan) → has_log plan ≡ true → map (λ (ring : RingName). Of ring) (rings_of plan) ++ (Of LogRing ∷ Replay ∷ []) ≡ turns_of plan
 turns-with plan has = ap (λ (b : Bool). map (λ (ring : RingName). Of ring) (rings_of plan) ++ cond b (Of LogRing ∷ Replay ∷ []) []) (sym has)

@@ -1,5 +1,5 @@
 -- How the mount of a table ends that may have a log.
-use Rattle.std.proofs.Common.{◌≡◌, ℕ, ◌+◌, ◌≤◌, Bool, true, false, cond, nat_lt, Option, Some, None, IfSome, is_some, Result, Ok, Err, List, [], ◌∷◌, ◌++◌, map, filter, refl, sym, ◌∙◌, ap, subst, arith, inl, inr, ◌⊎◌}
+use Rattle.std.proofs.Common.{◌≡◌, ℕ, ◌+◌, ◌≤◌, Bool, true, cond, nat_lt, Option, Some, None, IfSome, Result, Ok, Err, List, [], ◌∷◌, ◌++◌, map, filter, refl, sym, ◌∙◌, ap, subst, inl, inr, ◌⊎◌}
 use Rattle.std.specs.List.{AllByRecursion}
 use Rattle.std.proofs.lemmas.List.{append-nil}
 use Rattle.fl_flash.specs.Flash.{FlashState, page_at}
@@ -14,14 +14,13 @@ use Rattle.fl_model.specs.Bare.{bare, bare_table}
 use Rattle.fl_model.specs.Facts.{is_some_ring, counts_in}
 use Rattle.fl_model.specs.Image.{IsRingImage, HoldsLogged, HoldsPage}
 use Rattle.fl_model.specs.Mount.{Of, Replay, Turn, turns_of, rings_of, ready}
-use Rattle.fl_model.specs.Record.{Plan, blocks_of, has_log, has_var, row_layout, rows_per_page}
-use Rattle.fl_model.specs.Ring.{Ring, IsRing, IsShape}
+use Rattle.fl_model.specs.Record.{Plan, blocks_of, has_log, row_layout, rows_per_page}
+use Rattle.fl_model.specs.Ring.{Ring, IsRing}
 use Rattle.fl_model.specs.Row.{stored_row}
-use Rattle.fl_model.specs.Table.{Table, Entry, RingName, DataRing, LogRing, shape_of, log_pages, lose, pending_entries}
+use Rattle.fl_model.specs.Table.{Table, Entry, RingName, LogRing, shape_of, log_pages, lose, pending_entries}
 use Rattle.fl_model.specs.Within.{TableMounts, TableMountEnd, TableMounted, TableStopped, TableUnread}
 use Rattle.fl_model.specs.Work.{Device}
 use Rattle.fl_page.specs.Writer.{Gathers}
-use Rattle.fl_parts.specs.Blobs.{ArePlanned}
 use Rattle.fl_table.specs.Mounting.{OutsideStands}
 use Rattle.fl_table.specs.Outcomes as bare_outcomes
 use Rattle.fl_parts.specs.Failing.{FaultEnds}
@@ -34,10 +33,7 @@ use Rattle.fl_parts.specs.declared.mount_fault.MountFault.{MountFault}
 use Rattle.fl_parts.specs.declared.mount_fault.MountFault.TheVariants as mount
 use Rattle.fl_table.specs.declared.table.Table as code
 use Rattle.fl_parts.proofs.Bare.{bare-table}
-use Rattle.fl_parts.proofs.BlobsOfTable.{planned-none}
 use Rattle.fl_parts.proofs.Loose.{rests-mountable}
-use Rattle.fl_table.proofs.SealAnswers.{planned-shape}
-use Rattle.fl_var.specs.declared.var_data.VarData.{VarData}
 use Rattle.fl_rlc.specs.Logged.{Stands, Rests, LogStands}
 use Rattle.fl_rlc.specs.Memory as log_words
 use Rattle.fl_rlc.specs.Memory.{rows_in}
@@ -47,7 +43,7 @@ use Rattle.fl_rlc.specs.Pages.{log_body}
 use Rattle.fl_rlc.specs.Table.{IsPlanned, IsLogPlanned}
 use Rattle.fl_rlc.specs.declared.log.RecordLog.{RecordLog}
 use Rattle.fl_rlc.specs.declared.table.LoggedTable.{LoggedTable}
-use Rattle.fl_rlc.proofs.Assembled.{bare-same, log-there, stands-of, rests-of}
+use Rattle.fl_rlc.proofs.Assembled.{bare-same, log-there, stands-of, rests-of, has-room}
 use Rattle.fl_rlc.proofs.BareFacts.{bare-facts}
 use Rattle.fl_rlc.proofs.Frames.{log-bytes}
 use Rattle.fl_rlc.proofs.MountApart.{table-ends}
@@ -142,18 +138,7 @@ module _ {KNOTS SLOTS : ℕ} (t : LoggedTable KNOTS SLOTS) (f : FlashState) (fir
     has = log-there l (first + blocks_of (bare plan)) plan log-planned
 
     room : HasRoom plan
-    room =
-        let shape : IsShape (shape_of (bare plan) DataRing) = planned-shape t.table first (bare plan) planned.table in
-        record {
-          blocks = shape.blocks;
-          pages = shape.pages;
-          log_blocks = λ some. omega (arith, log-planned.blocks, l.some_blocks);
-          no_var = λ some. by-blobs t.table.blobs (t.no_blobs (ap (λ (o : Option RecordLog). is_some o) t_is)) planned.table.var;
-        }
-      where
-        by-blobs : (o : Option VarData) → is_some o ≡ false → ArePlanned o (first + plan.data_blocks + plan.index_blocks) (bare plan) → has_var plan ≡ false
-        by-blobs None e p = planned-none (first + plan.data_blocks + plan.index_blocks) (bare plan) p
-        by-blobs (Some v) e p = cc
+    room = has-room t l first plan t_is planned.table log-planned
 
     -- its ring
     pub there : (ring : Ring) × (table.log ≡ Some ring)

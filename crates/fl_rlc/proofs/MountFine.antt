@@ -12,7 +12,8 @@ use Rattle.fl_model.proofs.MountAmongTables.{mounts-along}
 use Rattle.fl_machine.specs.Found.{HasRoom, LoggedPast}
 use Rattle.fl_machine.proofs.LogMounts.{IsDone}
 use Rattle.fl_machine.proofs.LogMoves.{LeftBy, Start, log-turns, mounts-logged}
-use Rattle.fl_machine.proofs.Logs.{core, IsFine, RestsAs, lost, owed-found}
+use Rattle.fl_machine.proofs.Logs.{core, IsFine, RestsAs, lost}
+use Rattle.fl_machine.proofs.LogStops.{owed-found}
 use Rattle.fl_rlc.proofs.KeptRecords.{fine-of}
 
 module _ (plan : Plan) (table : Table) (ring : Ring) (ring_is : table.log ≡ Some ring) (facts : IsTable plan table) (none : table.pending ≡ 0) (room : HasRoom plan) (has : has_log plan ≡ true) where

@@ -17,6 +17,7 @@ use Rattle.fl_model.specs.Ring.{Ring, IsRing, IsShape}
 use Rattle.fl_model.specs.Table.{Table, RingName, DataRing, IndexRing, shape_of}
 use Rattle.fl_model.specs.Within.{TableMounts, TableMounted}
 use Rattle.fl_model.specs.Work.{Device, PartProgress}
+use Rattle.fl_model.proofs.SomeRing.{some-ring}
 use Rattle.fl_ring.specs.Head.{one}
 use Rattle.fl_parts.specs.Bitmaps.{ArePlanned}
 use Rattle.fl_table.specs.Memory.{IsPlanned}
@@ -81,14 +82,10 @@ module _ {K S : ℕ} (t : code.Table K S) (f between : FlashState) (first : ℕ)
         (subst (λ (p : ℕ). is_blank (page_at f p) ≡ true) (sym here) (next-blank (shape_of plan DataRing) table.rows (bytes_in (page_at f) first plan DataRing) (HoldsRows plan table) shape facts.rows pages.rows))
 
     index-replayed : (page : ℕ) (r : Ring) → after.index ≡ Some r → page ≡ place_in first plan IndexRing r.next → IsReplayed first plan page (page_at f page)
-    index-replayed page r is at = by-index t.bitmaps planned.index (the-ring table.index (facts.has_rings.0 ∙ has))
+    index-replayed page r is at = by-index t.bitmaps planned.index (some-ring table.index (facts.has_rings.0 ∙ has))
       where
         has : has_index plan ≡ true
         has = sym has_index_now ∙ ap is_some_ring (sym index_same ∙ is)
-
-        the-ring : (o : Option Ring) → is_some_ring o ≡ true → (x : Ring) × (o ≡ Some x)
-        the-ring (Some x) e = (x, refl)
-        the-ring None e = absurd (false≢true e)
 
         by-index : (o : Option BitmapIndex) → ArePlanned o (first + plan.data_blocks) (bare plan) → (x : Ring) × (table.index ≡ Some x) → IsReplayed first plan page (page_at f page)
         by-index None p x = absurd (false≢true (sym (planned-none (first + plan.data_blocks) (bare plan) p) ∙ has))

@@ -1,13 +1,13 @@
 -- The mount of a log's ring, in the words of its table.
-use Rattle.std.proofs.Common.{◌≡◌, inl, inr, ℕ, ◌+◌, ◌-◌, ◌*◌, ◌<◌, ◌≤◌, Bool, true, false, cond, nat_lt, Option, Some, None, unwrap_or, Result, Ok, Err, List, [], ◌∷◌, ◌++◌, map, length, get_or, refl, sym, ◌∙◌, ap, subst, arith, IsTrue}
-use Rattle.std.specs.Prelude.{option_map, is_some, IfSome}
+use Rattle.std.proofs.Common.{◌≡◌, inl, inr, ℕ, ◌+◌, ◌-◌, ◌*◌, ◌<◌, ◌≤◌, Bool, true, false, cond, nat_lt, Option, Some, None, Result, Ok, Err, List, [], ◌∷◌, ◌++◌, map, length, refl, sym, ◌∙◌, ap, subst, arith, IsTrue}
+use Rattle.std.specs.Prelude.{option_map, is_some}
 use Rattle.std.specs.List.{list_any}
+use Rattle.std.proofs.lemmas.List.{map-append}
 use Rattle.std.proofs.Math.Nat.{mul-le-mul_right}
-use Rattle.std.proofs.lemmas.Bool.{true≢false}
 use Rattle.fl_base.specs.declared.types.Geometry.{Geometry}
 use Rattle.fl_flash.specs.Flash.{FlashState, page_at}
 use Rattle.fl_flash.specs.declared.flash.FlashFault.{FlashFault}
-use Rattle.fl_flash.specs.declared.flash.FlashFault.TheVariants.{PowerLost, Media}
+use Rattle.fl_flash.specs.declared.flash.FlashFault.TheVariants.{Media}
 use Rattle.fl_model.specs.Bare.{bare_table}
 use Rattle.fl_model.specs.Layout.{le}
 use Rattle.fl_model.specs.Mount as numbering
@@ -15,74 +15,44 @@ use Rattle.fl_model.specs.Mount.{renumber, least_alike}
 use Rattle.fl_model.specs.MountLimit.{ring_mount_limit, part_mount_limit}
 use Rattle.fl_model.specs.Record.{Plan, rows_per_page}
 use Rattle.fl_model.specs.Ring as model
-use Rattle.fl_model.specs.Table.{Table, Entry, RingName, LogRing, shape_of, seal_page, is_dirty, is_torn, log_pages, has_rows}
-use Rattle.fl_model.specs.Work.{Kind, Body, Mark, VoidMark, Erase, Device, PartEnd, Whole, CutIn, FailedIn}
-use Rattle.fl_model.specs.Within.{repair_within, TablePerforms, all_done}
-use Rattle.fl_model.proofs.Performs.{performs-whole}
+use Rattle.fl_model.specs.Table.{Table, Entry, RingName, LogRing, shape_of, log_pages, has_rows}
+use Rattle.fl_model.specs.Work.{Kind, Body, Mark, VoidMark, Erase, Device}
+use Rattle.fl_model.specs.Within.{repair_within, TablePerforms}
 use Rattle.fl_ring.specs.Head.{one}
 use Rattle.fl_ring.specs.Mounting.{shape_at, IsGood, Mounted, RepairEnds}
 use Rattle.fl_ring.specs.Mounting as ring_mounting
 use Rattle.fl_ring.specs.Newest.{number_of}
 use Rattle.fl_ring.specs.Numbers.{renumbered, voids_at_end}
-use Rattle.fl_ring.specs.Operations.{change, repair_kinds}
-use Rattle.fl_ring.specs.Ring.{Shape, RingState, IsShape, OnRing, room, place, count, oldest, voided}
-use Rattle.fl_ring.specs.Sealing.{AnswersEnd}
+use Rattle.fl_ring.specs.Operations.{repair_kinds}
+use Rattle.fl_ring.specs.Ring.{Shape, RingState, OnRing, room, place, count, oldest, voided}
 use Rattle.fl_ring.specs.declared.fault.RingFault.{RingFault}
 use Rattle.fl_ring.specs.declared.fault.RingFault.TheVariants as ring_fault
 use Rattle.fl_ring.specs.declared.newest.NewestPage.{NewestPage}
 use Rattle.fl_ring.specs.declared.ring.Ring as memory
-use Rattle.fl_ring.proofs.Counts.{counts_length, counts_renumbered, counts_voided}
+use Rattle.fl_ring.proofs.Bodies.{HoldBodies, bodies-numbered, holds-some, renumbered-bodies}
+use Rattle.fl_ring.proofs.Counts.{counts_length, counts_renumbered}
+use Rattle.fl_ring.proofs.HeldPages.{IsStateOf}
+use Rattle.fl_ring.proofs.InTable.{of_ring, erases-front, begins-front, erases-where, counted-repairs, performed-lifts, all-whole}
+use Rattle.fl_ring.proofs.Mounts.{repair_end, mount_fault}
 use Rattle.fl_ring.proofs.SamePlaces.{renumbered_on, renumbered_same}
 use Rattle.fl_ring.proofs.VoidsAtEnd.{voids_are}
 use Rattle.fl_schema.proofs.Numbers.{length-le, number_of-le}
 use Rattle.fl_schema.proofs.References.{from_le_bytes_4}
 use Rattle.fl_ring.proofs.Heads.{one-is}
 use Rattle.fl_parts.proofs.Plain.{least-below}
+use Rattle.fl_parts.proofs.SealEnds.{fault-ends}
 use Rattle.fl_rlc.specs.Memory.{page_in, log_shape, IsSamePlan}
-use Rattle.fl_rlc.specs.Pages.{log_body, IsLogRing}
+use Rattle.fl_rlc.specs.Pages.{IsLogRing}
 use Rattle.fl_rlc.specs.Repairing.{Rests, MountEnds}
 use Rattle.fl_rlc.specs.declared.log.RecordLog.{RecordLog}
-use Rattle.fl_rlc.proofs.Bodies.{counted, rows_of, HoldBodies, bodies-at, kept-torn}
-use Rattle.fl_rlc.proofs.RingInTable.{of_log, AreErases, BeginsMark, HasCome, IsRingOf, come-small, performed-lifts, fault-ends, all-whole}
+use Rattle.fl_rlc.proofs.Bodies.{counted, rows_of, IsBody, some-rows}
+use Rattle.fl_rlc.proofs.RingInTable.{HasCome, IsRingOf, come-small, step-along}
 use Rattle.fl_rlc.proofs.SealsInTable.{shape-is, shape-here, rows-few, next-is, oldest-is}
-use Rattle.fl_rlc.proofs.States.{state_of, holds-some, IsStateOf, state-is, log-ring-of}
+use Rattle.fl_rlc.proofs.States.{state_of, state-is, log-ring-of}
 
 -- a body begins with its number
-pub body-number : (plan : Plan) (n : ℕ) (rows : List Entry) (body : List ℕ) → body ≡ log_body plan n rows → n < 4294967296 → number_of body ≡ n
-body-number plan n rows body is small = ap number_of is ∙ (from_le_bytes_4 (le 4 n) (length-le 4 n) ∙ number_of-le 4 n small)
-
--- pages that are all void have any numbers
-bodies-anew : (plan : Plan) (n m : ℕ) (kept : List (Option (List ℕ))) (pages : List (List Entry)) → list_any is_some kept ≡ false → HoldBodies plan n kept pages → HoldBodies plan m kept pages
-bodies-anew plan n m [] [] e h = tt
-bodies-anew plan n m [] (p ∷ pages) e h = absurd h
-bodies-anew plan n m (None ∷ kept) pages e h = bodies-anew plan (n + 1) (m + 1) kept pages e h
-bodies-anew plan n m (Some b ∷ kept) pages e h = absurd (true≢false e)
-
--- the same bodies have other numbers only where there are none
-renumbered-bodies : (plan : Plan) (r : Shape) (at_least : ℕ) (s : RingState) (pages : List (List Entry)) → HoldBodies plan (oldest s) s.kept pages →
-    HoldBodies plan (oldest (renumbered r at_least s)) (renumbered r at_least s).kept pages
-renumbered-bodies plan r at_least s pages h = by_any (list_any is_some s.kept) refl
-  where
-    by_any : (b : Bool) → list_any is_some s.kept ≡ b → HoldBodies plan (oldest (cond b s (record s { next = least_alike (room r) s.next (at_least + length s.kept) })))
-        (cond b s (record s { next = least_alike (room r) s.next (at_least + length s.kept) })).kept pages
-    by_any true e = h
-    by_any false e = bodies-anew plan (oldest s) _ s.kept pages e h
-
--- what all repairs leave
-pub record IsClean (left : RingState) : Type 0 where
-  pub whole : left.torn ≡ false
-  pub clean : left.dirty ≡ false
-
-repairs-clean : (r : Shape) (s : RingState) → IsShape r → count s ≤ s.next → IsClean (all_done (change r []) (repair_kinds r s) s)
-repairs-clean r s shape known = by_torn s.torn refl
-  where
-    by_dirty : (t : RingState) (d : Bool) → t.dirty ≡ d → t.torn ≡ false → IsClean (all_done (change r []) (cond d (Erase ∷ []) []) t)
-    by_dirty t true e whole = record { whole = whole; clean = refl }
-    by_dirty t false e whole = record { whole = whole; clean = e }
-
-    by_torn : (b : Bool) → s.torn ≡ b → IsClean (all_done (change r []) ((cond b (VoidMark ∷ []) []) ++ (cond (cond b (voided r s) s).dirty (Erase ∷ []) [])) s)
-    by_torn true e = by_dirty (voided r s) (voided r s).dirty refl (kept-torn r s None shape known)
-    by_torn false e = by_dirty s s.dirty refl e
+pub body-number : (plan : Plan) (n : ℕ) (body : List ℕ) (rows : List Entry) → IsBody plan n body rows → n < 4294967296 → number_of body ≡ n
+body-number plan n body rows is small = ap number_of is.is ∙ (from_le_bytes_4 (le 4 n) (length-le 4 n) ∙ number_of-le 4 n small)
 
 -- the limit on its reads, as the ring's mount has it
 pub few-read : (l : RecordLog) (f g : FlashState) (first : ℕ) (plan : Plan) (table : Table) → Rests l f first plan table → f.geometry ≡ l.geometry → ((n : ℕ) → length (page_at f (place (log_shape l) n)) ≡ l.geometry.page) →
@@ -94,7 +64,7 @@ few-read l f g first plan table rests geometry sizes reads-within =
     let limit : part_mount_limit (shape_of plan LogRing) table.log ≡ plan.log_blocks + 2 * plan.geometry.block + 1 + voids_at_end s.kept =
     ap (λ (o : Option model.Ring). part_mount_limit (shape_of plan LogRing) o) rests.ring_is
     ∙ (ap (λ (x : model.Ring). ring_mount_limit (shape_of plan LogRing) x) (sym is.counts)
-    ∙ ap (λ (n : ℕ). plan.log_blocks + 2 * plan.geometry.block + 1 + n) (voids_are rows_of s (holds-some plan s (log_pages table) is.bodies))) in
+    ∙ ap (λ (n : ℕ). plan.log_blocks + 2 * plan.geometry.block + 1 + n) (voids_are rows_of s (holds-some (IsBody plan) rows_of (some-rows plan) s (log_pages table) is.bodies))) in
     let reads = reads-within s (subst (λ (x : Geometry). OnRing (shape_at l.place x) (page_at f) s) (sym geometry) is.on) in
     omega (arith, reads, limit, rests.planned.blocks, ap (λ (x : Geometry). x.block) (geometry ∙ sym rests.planned.geometry))
 
@@ -115,7 +85,7 @@ module _ (l : RecordLog) (f g : FlashState) (first : ℕ) (plan : Plan) (table :
   few : rows_per_page plan < 65536
   few = rows-few l first plan rests.planned
 
-  is : IsStateOf (log_shape l) plan (page_at f) sizes (shape-is l) (shape-here l first plan rests.planned) (rows-few l first plan rests.planned) rests.ring (log_pages table) (state_of plan rests.ring (log_pages table))
+  is : IsStateOf (IsBody plan) rows_of (log_shape l) (page_at f) rests.ring (log_pages table) (state_of plan rests.ring (log_pages table))
   is = state-is (log_shape l) plan (page_at f) sizes (shape-is l) (shape-here l first plan rests.planned) (rows-few l first plan rests.planned) rests.ring (log_pages table) rests.pages
 
   on_now : OnRing (log_shape l) (page_at f) numbered
@@ -127,7 +97,7 @@ module _ (l : RecordLog) (f g : FlashState) (first : ℕ) (plan : Plan) (table :
       ∙ ap (λ (x : model.Ring). Some x)
       (ap (λ (x : model.Ring). numbering.renumbered (shape_of plan LogRing) 0 x) (sym is.counts)
       ∙ (ap (λ (m : model.Shape). numbering.renumbered m 0 (counted (state_of plan rests.ring (log_pages table)))) (sym (shape-here l first plan rests.planned))
-      ∙ sym (counts_renumbered rows_of (log_shape l) 0 s (holds-some plan s (log_pages table) is.bodies))))
+      ∙ sym (counts_renumbered rows_of (log_shape l) 0 s (holds-some (IsBody plan) rows_of (some-rows plan) s (log_pages table) is.bodies))))
 
   -- no page of the log gets a greater number
   less : numbered.next ≤ rests.ring.next
@@ -151,37 +121,25 @@ module _ (l : RecordLog) (f g : FlashState) (first : ℕ) (plan : Plan) (table :
   good told = record {
     told = told;
     on = is.on;
-    numbered = λ i lt. by_page i lt (get_or s.kept i None) refl;
+    numbered = bodies-numbered (IsBody plan) rows_of (some-rows plan) (body-number plan) s (log_pages table) is.bodies is.on.ring.not_negative (let k = rests.pages.number in omega (arith, k));
     fits = let torn : ◌≡◌ {A = ℕ} (one numbered.torn) (cond numbered.torn 1 0) = one-is numbered.torn in let same : ◌≡◌ {A = ℕ} (one rests.ring.torn) (one numbered.torn) = ap one (sym torn_same) in omega (arith, torn, same, small);
   }
-    where
-      by_page : (i : ℕ) → i < count (state_of plan rests.ring (log_pages table)) → (x : Option (List ℕ)) → get_or (state_of plan rests.ring (log_pages table)).kept i None ≡ x →
-          IfSome (get_or (state_of plan rests.ring (log_pages table)).kept i None) (λ body. number_of body ≡ oldest (state_of plan rests.ring (log_pages table)) + i)
-      by_page i lt None e = rw e tt
-      by_page i lt (Some body) e =
-          let held = bodies-at plan (oldest s) s.kept (log_pages table) i body is.bodies e in
-          let number = body-number plan (oldest s + i) held.rows body held.body_is (omega (arith, lt, is.on.ring.not_negative, rests.pages.number)) in
-          subst (λ (x : Option (List ℕ)). IfSome x (λ body. number_of body ≡ oldest (state_of plan rests.ring (log_pages table)) + i)) (sym e) number
 
   come : HasCome plan [] (bare_table table) (repair_kinds (log_shape l) numbered) numbered
   come = by_torn numbered.torn refl
     where
-      erases : (b : Bool) → AreErases (cond b (Erase ∷ []) [])
-      erases true = tt
-      erases false = tt
-
       by_dirty : (b : Bool) → HasCome plan [] (bare_table table) (cond b (Erase ∷ []) []) numbered
       by_dirty true = (small, tt)
       by_dirty false = small
 
       by_torn : (b : Bool) → numbered.torn ≡ b → HasCome plan [] (bare_table table) ((cond b (VoidMark ∷ []) []) ++ (cond (cond b (voided (log_shape l) numbered) numbered).dirty (Erase ∷ []) [])) numbered
-      by_torn true e = let k = subst (λ (b : Bool). numbered.next + (cond b 1 0) ≤ 4294967292) e small in (k, erases (voided r numbered).dirty)
+      by_torn true e = let k = subst (λ (b : Bool). numbered.next + (cond b 1 0) ≤ 4294967292) e small in (k, erases-where (voided r numbered).dirty)
       by_torn false e = by_dirty numbered.dirty
 
   begins : (kinds : List Kind) → HasCome plan [] (bare_table table) kinds numbered → IsRingOf plan [] (bare_table table) kinds numbered (renumber plan LogRing table)
   begins kinds h = record {
     log_is = log_now;
-    bodies = subst (λ (ps : List (List Entry)). HoldBodies plan (oldest numbered) numbered.kept ps) (sym pages-same) (renumbered-bodies plan r 0 s (log_pages table) is.bodies);
+    bodies = subst (λ (ps : List (List Entry)). HoldBodies (IsBody plan) (oldest numbered) numbered.kept ps) (sym pages-same) (renumbered-bodies (IsBody plan) r 0 s (log_pages table) is.bodies);
     logged_some = λ none. rests.logged_some (sym rows-same ∙ none);
     rest = refl;
     known = on_now.ring.not_negative;
@@ -202,41 +160,18 @@ module _ (l : RecordLog) (f g : FlashState) (first : ℕ) (plan : Plan) (table :
       pages-same : log_pages (renumber plan LogRing table) ≡ log_pages table
       pages-same = ap (λ (b : Bool). table.logged_before ++ cond b (table.logged ∷ []) []) rows-same
 
-  kinds-are : map of_log (repair_kinds (log_shape l) numbered) ≡ repair_within plan LogRing (renumber plan LogRing table)
-  kinds-are = by_torn numbered.torn refl ∙ ap (λ (b : Bool). (cond b ((LogRing, VoidMark) ∷ []) []) ++ (cond (is_dirty LogRing (cond b (seal_page plan LogRing 0 table_now) table_now)) ((LogRing, Erase) ∷ []) [])) torn_is
-    where
-      torn_is : numbered.torn ≡ is_torn LogRing (renumber plan LogRing table)
-      torn_is = ap (λ (o : Option model.Ring). unwrap_or (option_map (λ (x : model.Ring). x.torn) o) false) (sym log_now)
-
-      dirty_is : numbered.dirty ≡ is_dirty LogRing (renumber plan LogRing table)
-      dirty_is = ap (λ (o : Option model.Ring). unwrap_or (option_map (λ (x : model.Ring). x.dirty) o) false) (sym log_now)
-
-      voided_is : (voided (log_shape l) numbered).dirty ≡ is_dirty LogRing (seal_page plan LogRing 0 (renumber plan LogRing table))
-      voided_is =
-          let ring_is : (seal_page plan LogRing 0 (renumber plan LogRing table)).log ≡ Some (counted (voided (log_shape l) numbered)) =
-          ap (option_map (model.sealed (shape_of plan LogRing) 0)) log_now
-          ∙ ap (λ (x : model.Ring). Some x) (ap (λ (m : model.Shape). model.sealed m 0 (counted numbered)) (sym (shape-here l first plan rests.planned)) ∙ sym (counts_voided rows_of (log_shape l) numbered)) in
-          ap (λ (o : Option model.Ring). unwrap_or (option_map (λ (x : model.Ring). x.dirty) o) false) (sym ring_is)
-
-      by_dirty : (b : Bool) → map of_log (cond b (Erase ∷ []) []) ≡ cond b ((LogRing, Erase) ∷ []) []
-      by_dirty true = refl
-      by_dirty false = refl
-
-      by_torn : (b : Bool) → numbered.torn ≡ b → map of_log ((cond b (VoidMark ∷ []) []) ++ (cond (cond b (voided (log_shape l) numbered) numbered).dirty (Erase ∷ []) []))
-          ≡ (cond b ((LogRing, VoidMark) ∷ []) []) ++ (cond (is_dirty LogRing (cond b (seal_page plan LogRing 0 (renumber plan LogRing table)) (renumber plan LogRing table))) ((LogRing, Erase) ∷ []) [])
-      by_torn true e = ap (λ (ops : List (RingName × Kind)). (LogRing, VoidMark) ∷ ops) (by_dirty (voided r numbered).dirty ∙ ap (λ (b : Bool). cond b ((LogRing, Erase) ∷ []) []) voided_is)
-      by_torn false e = by_dirty numbered.dirty ∙ ap (λ (b : Bool). cond b ((LogRing, Erase) ∷ []) []) dirty_is
+  kinds-are : map (of_ring LogRing) (repair_kinds (log_shape l) numbered) ≡ repair_within plan LogRing (renumber plan LogRing table)
+  kinds-are = counted-repairs LogRing plan table_now rows_of r numbered (shape-here l first plan rests.planned) log_now
 
   -- all repairs were done
   pub mount-well : (rose : Bool) (device : Device) (newest : Option NewestPage) (w : RecordLog) (ring : memory.Ring) → Mounted (log_shape l) rose device numbered ring g → w.ring ≡ Some ring → IsSamePlan l w → page_in w g ≡ page_in l g →
       MountEnds first plan table rose device l (Ok newest) w g
   mount-well rose device newest w ring m ring_is same page_is =
       let kinds = repair_kinds r numbered in
-      let v = performed-lifts (log_shape l) plan [] (bare_table table) (shape-is l) (shape-here l first plan rests.planned) rose kinds device numbered table_now (Ok tt) g (begins (repair_kinds r numbered) come) m.performed in
-      let all = all-whole (log_shape l) plan [] (bare_table table) (shape-is l) (shape-here l first plan rests.planned) v.now.end tt g v.answer in
+      let v = performed-lifts (IsRingOf plan [] (bare_table table)) r plan LogRing [] (step-along r plan [] (bare_table table) (shape-is l) (shape-here l first plan rests.planned)) rose kinds device numbered table_now (Ok tt) g (begins (repair_kinds r numbered) come) m.performed in
+      let all = all-whole v.now.end tt g v.answer in
       let did : TablePerforms plan rose (repair_within plan LogRing table_now) device table_now v.now = subst (λ (ops : List (RingName × Kind)). TablePerforms plan rose ops device table_now v.now) kinds-are v.did in
-      let clean : IsClean m.performed.now.state = subst IsClean (sym (performs-whole (λ kind. kind) (change (log_shape l) []) rose (repair_kinds r numbered) device numbered m.performed.now m.performed.did (answers m.performed.now.end m.performed.answer)).0)
-      (repairs-clean (log_shape l) numbered (shape-is l) on_now.ring.not_negative) in
+      let clean = repair_end (log_shape l) numbered rose device tt g m.performed in
       record {
         now = v.now;
         did = did;
@@ -252,32 +187,21 @@ module _ (l : RecordLog) (f g : FlashState) (first : ℕ) (plan : Plan) (table :
               (log-ring-of (log_shape l) plan (page_at g) later_sizes (shape-is l) (shape-here l first plan rests.planned) few m.performed.now.state (log_pages v.now.state) m.performed.on v.is.bodies
               (come-small plan [] (bare_table table) v.kinds m.performed.now.state v.is.come));
           logged_some = v.is.logged_some;
-          whole = clean.whole;
-          clean = clean.clean;
+          whole = clean.0;
+          clean = clean.1;
           next = next-is w ring ring_is ∙ m.stands.next;
           oldest_is = oldest-is w ring ring_is ∙ (m.stands.oldest ∙ ap (λ n. m.performed.now.state.next - n) (sym (counts_length rows_of m.performed.now.state)));
         };
         rest = v.is.rest;
       }
-    where
-      answers : (e : PartEnd RingState) → AnswersEnd e (Ok tt) g → e ≡ Whole
-      answers Whole a = refl
-      answers (CutIn b) a = absurd (not_err PowerLost a.0)
-        where
-          not_err : (fault : FlashFault) → ◌≡◌ {A = Result (Unit {0}) FlashFault} (Ok tt) (Err fault) → ⊥
-          not_err fault e = cc
-      answers (FailedIn b) a = absurd (not_err Media a.0)
-        where
-          not_err : (fault : FlashFault) → ◌≡◌ {A = Result (Unit {0}) FlashFault} (Ok tt) (Err fault) → ⊥
-          not_err fault e = cc
 
   -- a repair failed, or a read
   pub mount-badly : (rose : Bool) (device : Device) (fault : FlashFault) (w : RecordLog) → RepairEnds (log_shape l) rose (repair_kinds (log_shape l) numbered) device numbered (Err fault) g → MountEnds first plan table rose device l (Err (ring_fault.Flash fault)) w g
   mount-badly rose device fault w (inl p) =
-      let v = performed-lifts (log_shape l) plan [] (bare_table table) (shape-is l) (shape-here l first plan rests.planned) rose (repair_kinds r numbered) device numbered table_now (Err fault) g (begins (repair_kinds r numbered) come) p in
+      let v = performed-lifts (IsRingOf plan [] (bare_table table)) r plan LogRing [] (step-along r plan [] (bare_table table) (shape-is l) (shape-here l first plan rests.planned)) rose (repair_kinds r numbered) device numbered table_now (Err fault) g (begins (repair_kinds r numbered) come) p in
       record {
         now = v.now;
-        did = inl (subst (λ (ops : List (RingName × Kind)). TablePerforms plan rose ops device table_now v.now) kinds-are v.did, fault-ends (log_shape l) plan [] (bare_table table) (shape-is l) (shape-here l first plan rests.planned) v.now.end fault g v.answer);
+        did = inl (subst (λ (ops : List (RingName × Kind)). TablePerforms plan rose ops device table_now v.now) kinds-are v.did, fault-ends v.now.end fault g v.answer);
         counts = v.counts;
         ring = counted p.now.state;
         ring_is = v.is.log_is;
@@ -287,17 +211,17 @@ module _ (l : RecordLog) (f g : FlashState) (first : ℕ) (plan : Plan) (table :
         rest = v.is.rest;
       }
   mount-badly rose device fault w (inr u) =
-      let v = performed-lifts (log_shape l) plan [] (bare_table table) (shape-is l) (shape-here l first plan rests.planned) rose u.front device numbered table_now (Ok tt) g
+      let v = performed-lifts (IsRingOf plan [] (bare_table table)) r plan LogRing [] (step-along r plan [] (bare_table table) (shape-is l) (shape-here l first plan rests.planned)) rose u.front device numbered table_now (Ok tt) g
       (begins u.front (come-front u.front u.others (subst (λ (kinds : List Kind). HasCome plan [] (bare_table table) kinds numbered) u.split come))) u.did in
-      let all = all-whole (log_shape l) plan [] (bare_table table) (shape-is l) (shape-here l first plan rests.planned) v.now.end tt g v.answer in
+      let all = all-whole v.now.end tt g v.answer in
       record {
         now = v.now;
         did = inr (
           record {
             may_fail = u.risen;
-            front = map of_log u.front;
-            others = map of_log u.others;
-            split = sym kinds-are ∙ (ap (map of_log) u.split ∙ map-append u.front u.others);
+            front = map (of_ring LogRing) u.front;
+            others = map (of_ring LogRing) u.others;
+            split = sym kinds-are ∙ (ap (map (of_ring LogRing)) u.split ∙ map-append (of_ring LogRing) u.front u.others);
             did = v.did;
             whole = all.0;
           },
@@ -315,24 +239,6 @@ module _ (l : RecordLog) (f g : FlashState) (first : ℕ) (plan : Plan) (table :
       is_media : ◌≡◌ {A = Result (Unit {0}) FlashFault} (Err fault) (Err Media) → fault ≡ Media
       is_media e = cc
 
-      map-append : (xs ys : List Kind) → map of_log (xs ++ ys) ≡ map of_log xs ++ map of_log ys
-      map-append [] ys = refl
-      map-append (x ∷ xs) ys = ap (λ zs. of_log x ∷ zs) (map-append xs ys)
-
-      erases-front : (front others : List Kind) → AreErases (front ++ others) → AreErases front
-      erases-front [] others h = tt
-      erases-front (Erase ∷ front) others h = erases-front front others h
-      erases-front (Body ∷ front) others h = absurd h
-      erases-front (Mark ∷ front) others h = absurd h
-      erases-front (VoidMark ∷ front) others h = absurd h
-
-      begins-front : (front others : List Kind) → BeginsMark (front ++ others) → BeginsMark front
-      begins-front [] others h = tt
-      begins-front (Mark ∷ front) others h = erases-front front others h
-      begins-front (Body ∷ front) others h = absurd h
-      begins-front (VoidMark ∷ front) others h = absurd h
-      begins-front (Erase ∷ front) others h = absurd h
-
       come-front : (front others : List Kind) → HasCome plan [] (bare_table table) (front ++ others) numbered → HasCome plan [] (bare_table table) front numbered
       come-front [] others h = small
       come-front (Body ∷ front) others h = (h.0, begins-front front others h.1)
@@ -341,14 +247,8 @@ module _ (l : RecordLog) (f g : FlashState) (first : ℕ) (plan : Plan) (table :
       come-front (Erase ∷ front) others h = (h.0, erases-front front others h.1)
 
 -- how the mount of the ring ended
-pub mount-fault : (first : ℕ) (plan : Plan) (table : Table) (rose : Bool) (device : Device) (l w : RecordLog) (g : FlashState) (x : Shape) (t : RingState) (e : RingFault) → ring_mounting.MountEnds x rose device t (Err e) g →
-    ((fault : FlashFault) → RepairEnds x rose (repair_kinds x t) device t (Err fault) g → MountEnds first plan table rose device l (Err (ring_fault.Flash fault)) w g) → MountEnds first plan table rose device l (Err e) w g
-mount-fault first plan table rose device l w g x t (ring_fault.Flash e) h go = go e h
-mount-fault first plan table rose device l w g x t (ring_fault.BadHead heads) h go = absurd h
-mount-fault first plan table rose device l w g x t (ring_fault.BadGap page) h go = absurd h
-mount-fault first plan table rose device l w g x t (ring_fault.BadPage page wanted found) h go = absurd h
-mount-fault first plan table rose device l w g x t (ring_fault.NoNumber least) h go = absurd h
-
-pub mount-err : (first : ℕ) (plan : Plan) (table : Table) (rose : Bool) (device : Device) (l w : RecordLog) (g : FlashState) (result : Result (Option NewestPage) RingFault) (e : RingFault) → result ≡ Err e →
-    MountEnds first plan table rose device l (Err e) w g → MountEnds first plan table rose device l result w g
-mount-err first plan table rose device l w g result e is h = subst (λ (x : Result (Option NewestPage) RingFault). MountEnds first plan table rose device l x w g) (sym is) h
+pub mount-fault : (first : ℕ) (plan : Plan) (table : Table) (rose : Bool) (device : Device) (l w : RecordLog) (g : FlashState) (r : Shape) (t : RingState) (result : Result (Option NewestPage) RingFault) (e : RingFault) → result ≡ Err e →
+    ring_mounting.MountEnds r rose device t (Err e) g → ((fault : FlashFault) → RepairEnds r rose (repair_kinds r t) device t (Err fault) g → MountEnds first plan table rose device l (Err (ring_fault.Flash fault)) w g) →
+    MountEnds first plan table rose device l result w g
+mount-fault first plan table rose device l w g r t result e is h go =
+    subst (λ (x : Result (Option NewestPage) RingFault). MountEnds first plan table rose device l x w g) (sym is) (mount_fault (λ (x : RingFault). MountEnds first plan table rose device l (Err x) w g) r rose device t g e h go)

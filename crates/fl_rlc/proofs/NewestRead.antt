@@ -1,22 +1,18 @@
 -- The read of a log's newest page, over any bytes and over a flash that stands for a table and its log.
-use Rattle.std.proofs.Common.{◌≡◌, ℕ, ◌-◌, ◌^◌, ◌<◌, ◌≤◌, Bool, true, false, Option, None, List, refl, sym, ◌∙◌, ap, subst, arith, inl, inr, IsTrue}
+use Rattle.std.proofs.Common.{◌≡◌, ℕ, ◌-◌, ◌^◌, ◌<◌, ◌≤◌, Bool, true, false, None, List, refl, sym, ◌∙◌, ap, subst, arith, inl, inr, IsTrue}
 use Rattle.std.proofs.Math.Nat.{div-le_self}
 use Rattle.std.proofs.lemmas.Bool.{true≢false}
 use Rattle.std.proofs.lemmas.Option.{none-some}
 use Rattle.fl_base.specs.Causes.{Rose}
 use Rattle.fl_base.specs.declared.types.Geometry.{Geometry}
 use Rattle.fl_flash.specs.Flash.{FlashState}
-use Rattle.fl_flash.specs.declared.armed.Armed.{Armed}
 use Rattle.fl_flash.specs.declared.flash.FlashFault.{FlashFault}
 use Rattle.fl_flash.specs.declared.flash.FlashFault.TheVariants.{PowerLost, Media}
 use Rattle.fl_model.specs.Bare.{bare, bare_table}
 use Rattle.fl_model.specs.Layout.{committed}
 use Rattle.fl_model.specs.Record.{Plan, RowLayout, row_layout, layout_len, row_len, rows_per_page}
 use Rattle.fl_model.specs.Table as model
-use Rattle.fl_model.specs.Work.{Device}
 use Rattle.fl_page.specs.Page.{rows_in}
-use Rattle.fl_frame.specs.Device.{SameDevice, ArmsAs}
-use Rattle.fl_frame.specs.Reads.{OnlyReads}
 use Rattle.fl_frame.specs.Causes.{ReadFails}
 use Rattle.fl_schema.specs.Schema.{types_of}
 use Rattle.fl_table.specs.BlobAt.{has_blobs}
@@ -52,14 +48,6 @@ bad-no_flash layout number page fault P h = (of-page layout number page fault h)
 pub read-fails : (old new : FlashState) (fault : FlashFault) (rose : Bool) → old.is_on ≡ true → (Rose old.media.faults new.media.faults → IsTrue rose) → ReadFails old fault new → IsTrue rose × (fault ≡ Media)
 read-fails old new PowerLost rose on risen off = absurd (true≢false (sym on ∙ off))
 read-fails old new Media rose on risen h = (risen h, refl)
-
--- reads leave what the model counts
-pub device-reads : (old new : FlashState) (n : ℕ) (device : Device) → OnlyReads old n new → SameDevice old device → SameDevice new device
-device-reads old new n device reads h = record {
-  armed = subst (λ (o : Option Armed). ArmsAs device.armed o) (sym reads.armed) h.armed;
-  programs = h.programs ∙ sym reads.programs;
-  erases = h.erases ∙ sym reads.erases;
-}
 
 -- the newest page of a table with a log may stand, and has the records that are logged
 pub newest-read : {KNOTS SLOTS : ℕ} (t : Table KNOTS SLOTS) (f : FlashState) (first : ℕ) (plan : Plan) (table : model.Table) (number : ℕ) → has_blobs t ≡ false → Stands t f first (bare plan) (bare_table table) →

@@ -3,8 +3,8 @@ use Rattle.std.proofs.Common.{◌≡◌, ℕ, zero, suc, ◌+◌, ◌-◌, ◌*�
 use Rattle.std.specs.List.{AllByRecursion, list_any, slice_get}
 use Rattle.std.proofs.Math.Nat.{le-div_iff_mul-le}
 use Rattle.std.proofs.Math.Seq.{take-length}
-use Rattle.std.proofs.lemmas.Bool.{cases_lt, lt-ltb, true≢false}
-use Rattle.std.proofs.lemmas.List.{length-map}
+use Rattle.std.proofs.lemmas.Bool.{cases_lt, lt-ltb, true≢false, both_ways}
+use Rattle.std.proofs.lemmas.List.{length-map, length_push}
 use Rattle.std.proofs.lemmas.Option.{none-some, same_Some}
 use Rattle.fl_flash.specs.Flash.{FlashState, page_at}
 use Rattle.fl_mark.specs.Mark.{state_of_page}
@@ -17,7 +17,8 @@ use Rattle.fl_model.specs.Ring as model
 use Rattle.fl_model.specs.Row.{Row, IsStorable, stored_row}
 use Rattle.fl_model.specs.Table.{Table, Entry, full_pages, has_rows, log_pages}
 use Rattle.fl_model.proofs.FullPages.{full-cons, full-one, full-void}
-use Rattle.fl_model.proofs.Lists.{slice_get-some, slice_get-short, slice_get-last, each-at, drop_none}
+use Rattle.fl_model.proofs.Lists.{slice_get-some, slice_get-short, slice_get-last, each-at, drop_none, any-at}
+use Rattle.fl_model.proofs.StoredRows.{stored-row}
 use Rattle.fl_page.specs.Page.{IsGoodPage, rows_in}
 use Rattle.fl_page.proofs.DataPages.{good_body, rows_in-rows_body}
 use Rattle.fl_ring.specs.Newest.{commits, NoneCommitted}
@@ -27,7 +28,6 @@ use Rattle.fl_schema.specs.Form.{layout_with}
 use Rattle.fl_schema.specs.declared.column.ColumnType.{ColumnType}
 use Rattle.fl_schema.specs.declared.schema.KeyWidth.{KeyWidth}
 use Rattle.fl_ring.proofs.Images.{committed_is}
-use Rattle.fl_parts.proofs.BlobRows.{stored-row}
 use Rattle.fl_parts.proofs.KeyOrder.{rising}
 use Rattle.fl_parts.specs.Reading.{keys_fault}
 use Rattle.fl_rlc.specs.Joining.{HasNewest}
@@ -113,15 +113,6 @@ none-any : (counts : List ℕ) → ((j d : ℕ) → slice_get counts j ≡ Some 
 none-any [] h = refl
 none-any (y ∷ ys) h = ap (λ (n : ℕ). nat_lt 0 n || list_any (nat_lt 0) ys) (h 0 y refl) ∙ none-any ys (λ j d k. h (suc j) d k)
 
-some-any : (counts : List ℕ) (i c : ℕ) → slice_get counts i ≡ Some c → 0 < c → list_any (nat_lt 0) counts ≡ true
-some-any [] i c e some = absurd (none-some c e)
-some-any (y ∷ ys) zero c e some = let same : y ≡ c = cc in ap (λ (b : Bool). b || list_any (nat_lt 0) ys) (lt-ltb 0 y (omega (arith, same, some)))
-some-any (y ∷ ys) (suc i) c e some = ap (λ (b : Bool). nat_lt 0 y || b) (some-any ys i c e some) ∙ or-true (nat_lt 0 y)
-  where
-    or-true : (b : Bool) → (b || true) ≡ true
-    or-true true = refl
-    or-true false = refl
-
 module _ (l : RecordLog) (f : FlashState) (first : ℕ) (plan : Plan) (table : Table) (h : HasRing l f first plan table) (sizes : (n : ℕ) → length (page_at f (place (log_shape l) n)) ≡ l.geometry.page) where
   many : model.oldest h.ring + length h.ring.counts ≡ h.ring.next
   many = omega (arith, h.pages.facts.not_negative)
@@ -136,15 +127,12 @@ module _ (l : RecordLog) (f : FlashState) (first : ℕ) (plan : Plan) (table : T
       let long : 8 ≤ length (page_in l f (model.oldest h.ring + i)) = omega (arith, sizes (model.oldest h.ring + i), l.served.page_least) in
       ap (λ (s : PageState). commits s) ((model_state (page_in l f (model.oldest h.ring + i)) long).void.1 (h.pages.image.void i e))
 
-  not-both : {b : Bool} → b ≡ true → b ≡ false → ⊥
-  not-both e k = true≢false (sym e ∙ k)
-
   -- none of some pages is committed
   all-void : (from : ℕ) → NoneCommitted (page_at f) (log_shape l) from (next_in l) → (i c : ℕ) → slice_get h.ring.counts i ≡ Some c → from ≤ model.oldest h.ring + i → c ≡ 0
   all-void from none i zero e le = refl
   all-void from none i (suc c) e le =
       let short = slice_get-short h.ring.counts i (suc c) e in
-      absurd (not-both (committed-is i (suc c) e (omega arith)) (none (model.oldest h.ring + i) le (omega (arith, short, many, h.next))))
+      absurd (both_ways _ (none (model.oldest h.ring + i) le (omega (arith, short, many, h.next))) (committed-is i (suc c) e (omega arith)))
 
   -- there is no such page
   pub newest-none : NoneCommitted (page_at f) (log_shape l) (oldest_in l) (next_in l) → table.logged ≡ []
@@ -161,16 +149,16 @@ module _ (l : RecordLog) (f : FlashState) (first : ℕ) (plan : Plan) (table : T
       by-count c.0 c.1 at
     where
       by-count : (c : ℕ) → slice_get h.ring.counts (number - model.oldest h.ring) ≡ Some c → model.oldest h.ring + (number - model.oldest h.ring) ≡ number → HasNewest l f plan table number
-      by-count zero e at = absurd (not-both is (ap (λ (n : ℕ). commits (state_of_page (page_in l f n))) (sym at) ∙ void-is (number - model.oldest h.ring) e))
+      by-count zero e at = absurd (both_ways _ (ap (λ (n : ℕ). commits (state_of_page (page_in l f n))) (sym at) ∙ void-is (number - model.oldest h.ring) e) is)
       by-count (suc c) e at =
           let i = number - model.oldest h.ring in
           let some : 0 < suc c = omega arith in
           let held = h.pages.image.kept i (suc c) e some in
-          let rows : has_rows table.log ≡ true = ap has_rows h.ring_is ∙ some-any h.ring.counts i (suc c) e some in
+          let rows : has_rows table.log ≡ true = ap has_rows h.ring_is ∙ any-at (nat_lt 0) h.ring.counts i (suc c) e (lt-ltb 0 (suc c) some) in
           let pages : log_pages table ≡ table.logged_before ++ table.logged ∷ [] = ap (λ (b : Bool). table.logged_before ++ cond b (table.logged ∷ []) []) rows in
           let full = last-full h.ring.counts i (suc c) e some (λ j d lt k. all-void (number + 1) later j d k (omega (arith, lt, at))) in
           let each : length (log_pages table) ≡ length (filter (nat_lt 0) h.ring.counts) = sym (length-map (log_pages table) (λ (rows : List Entry). length rows)) ∙ ap (λ (ns : List ℕ). length ns) h.pages.each in
-          let before : length (log_pages table) ≡ length table.logged_before + 1 = ap (λ (ps : List (List Entry)). length ps) pages ∙ pushed table.logged_before table.logged in
+          let before : length (log_pages table) ≡ length table.logged_before + 1 = ap (λ (ps : List (List Entry)). length ps) pages ∙ length_push table.logged_before table.logged in
           let place_is : full_pages (take i h.ring.counts) ≡ length table.logged_before = omega (arith, full, each, before) in
           let there : slice_get (log_pages table) (full_pages (take i h.ring.counts)) ≡ Some table.logged =
           ap (λ (n : ℕ). slice_get (log_pages table) n) place_is ∙ (ap (λ (ps : List (List Entry)). slice_get ps (length table.logged_before)) pages ∙ slice_get-last table.logged_before table.logged) in
@@ -185,10 +173,6 @@ module _ (l : RecordLog) (f : FlashState) (first : ℕ) (plan : Plan) (table : T
         where
           same : {a b : List Entry} → Some a ≡ Some b → a ≡ b
           same k = cc
-
-          pushed : {X : Type 0} (xs : List X) (x : X) → length (xs ++ x ∷ []) ≡ length xs + 1
-          pushed [] x = refl
-          pushed (y ∷ ys) x = let k = pushed ys x in omega (arith, k)
 
           -- a page has as many records as it counts
           counted : (pages : List (List Entry)) (counts : List ℕ) (i c n : ℕ) (rows : List Entry) → map (λ (rows : List Entry). length rows) pages ≡ filter (nat_lt 0) counts → full_pages (take i counts) ≡ n → slice_get counts i ≡ Some (suc c) →

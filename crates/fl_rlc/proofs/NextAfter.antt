@@ -1,14 +1,15 @@
 -- The next page of a ring after the mount of its table: one more where a torn page was given up.
-use Rattle.std.proofs.Common.{◌≡◌, ◌⊎◌, ℕ, ◌+◌, ◌*◌, ◌%◌, ◌<◌, Bool, true, false, cond, nat_lt, Option, Some, option_map, unwrap_or, inl, inr, List, [], ◌∷◌, ◌++◌, length, map, drop, refl, sym, ◌∙◌, ap, subst, arith}
+use Rattle.std.proofs.Common.{◌≡◌, ◌⊎◌, ℕ, ◌+◌, ◌*◌, ◌%◌, ◌<◌, Bool, true, false, cond, nat_lt, Option, Some, option_map, unwrap_or, inl, inr, List, [], ◌∷◌, ◌++◌, length, map, refl, sym, ◌∙◌, ap, subst, arith}
 use Rattle.std.specs.List.{list_any}
 use Rattle.std.proofs.Math.Nat.{mod-add-mod}
 use Rattle.fl_model.specs.Mount.{Turn, Of, turned, renumber, renumbered, least_alike, at_least_of, rings_of}
 use Rattle.fl_model.specs.Record.{Plan, has_index, has_var}
-use Rattle.fl_model.specs.Ring.{Shape, Ring, sealed, extended, erased, is_full}
+use Rattle.fl_model.specs.Ring.{Shape, Ring, sealed, erased}
 use Rattle.fl_model.specs.Table.{Table, RingName, DataRing, IndexRing, VarRing, shape_of, is_torn, is_dirty, seal_page}
 use Rattle.fl_model.specs.Within.{TableMounts, TableMounted, TableStopped, TableUnread, TableGoesOn, all_done, effect_within, turn_within}
 use Rattle.fl_model.specs.Work.{VoidMark, Erase, Device, PartEnd, Whole, CutIn, FailedIn, PartProgress}
 use Rattle.fl_model.proofs.Performs.{performs-whole}
+use Rattle.fl_model.proofs.Sealed.{sealed-next}
 use Rattle.fl_ring.specs.Head.{one}
 use Rattle.fl_ring.proofs.SamePlaces.{least_is_alike}
 
@@ -46,13 +47,6 @@ mounted-last plan rose device table now h = ap (λ (p : PartProgress Table). p.s
   where
     same : {a b : PartProgress Table} → TableMounted a ≡ TableMounted b → a ≡ b
     same e = cc
-
-pub sealed-next : (shape : Shape) (count : ℕ) (ring : Ring) → (sealed shape count ring).next ≡ ring.next + 1
-sealed-next shape count ring = by-full (is_full shape (extended count ring))
-  where
-    by-full : (full : Bool) → (cond full (record (extended count ring) { counts = drop shape.pages (extended count ring).counts; dirty = true }) (extended count ring)).next ≡ ring.next + 1
-    by-full true = refl
-    by-full false = refl
 
 -- the number after the repair of a ring that got its numbers back
 module _ (shape : Shape) (some : 0 < shape.blocks * shape.pages) where

@@ -1,8 +1,7 @@
 -- Records that are offered to a table, one after another.
-use Rattle.std.proofs.Common.{◌≡◌, ℕ, suc, ◌+◌, ◌<◌, ◌≤◌, ◌⊎◌, inl, inr, zero, Option, None, Some, IsSomeAnd, List, [], ◌∷◌, drop, refl, sym, ◌∙◌, ap, subst, arith}
+use Rattle.std.proofs.Common.{◌≡◌, ℕ, suc, ◌+◌, zero, Option, None, Some, IsSomeAnd, List, [], ◌∷◌, drop, refl, sym, ◌∙◌, ap, subst, arith}
 use Rattle.std.specs.List.{slice_get}
 use Rattle.std.proofs.Math.IntN.{ℤ}
-use Rattle.std.proofs.lemmas.Bool.{cases_lt}
 use Rattle.fl_flash.specs.Flash.{FlashState}
 use Rattle.fl_model.specs.Row.{Row}
 use Rattle.fl_table.specs.Memory.{pending_in, NothingWaits}
@@ -46,11 +45,3 @@ sealed-empty {KNOTS} {SLOTS} t u after f g empty unjoined sealed = by-count (pen
     by-count : (n : ℕ) → pending_in u ≡ n → NothingWaits after
     by-count zero is = subst (λ (x : Table KNOTS SLOTS). NothingWaits x) (sym ((sealed.quiet is).0 ∙ unjoined is)) empty
     by-count (suc n) is = (sealed.sealed (omega (arith, is))).empty
-
--- a call that would have done nothing where there are none has some
-pub some-there : (n : ℕ) → (n ≡ 0 → ⊥) → 1 ≤ n
-some-there n none = by-case (cases_lt 0 n)
-  where
-    by-case : (0 < n) ⊎ (n ≤ 0) → 1 ≤ n
-    by-case (inl some) = omega (arith, some)
-    by-case (inr few) = absurd (none (omega (arith, few)))

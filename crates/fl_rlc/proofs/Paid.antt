@@ -2,20 +2,24 @@
 use Rattle.std.proofs.Common.{◌≡◌, ℕ, ◌<◌, ◌≤◌, Bool, true, false, cond, ◌==◌, ◌&&◌, nat_lt, Option, Some, None, List, [], ◌∷◌, ◌++◌, length, take, drop, filter, refl, sym, ◌∙◌, ap, subst, arith, ◌⊎◌, inl, inr, eq-eqb}
 use Rattle.std.specs.List.{AllByRecursion, last_or, sum}
 use Rattle.std.specs.Option.{option_map, unwrap_or}
-use Rattle.std.proofs.lemmas.Bool.{eqb-true, ltb-false, false≢true, true≢false}
+use Rattle.std.proofs.lemmas.Bool.{eqb-true, ltb-false, false≢true, true≢false, le-ltb}
 use Rattle.std.proofs.lemmas.List.{drop-append-le}
 use Rattle.std.proofs.lemmas.List.Sums.{sum_by-take-le}
 use Rattle.std.proofs.lemmas.Option.{none-some, same_Some}
+use Rattle.fl_base.proofs.Tests.{some_from}
 use Rattle.fl_model.specs.Bare.{bare, bare_table, log_of, beside}
 use Rattle.fl_model.specs.Facts.{IsLogPage}
 use Rattle.fl_model.specs.Mount.{joined}
 use Rattle.fl_model.specs.Record.{Plan, has_index, entries_per_page}
 use Rattle.fl_model.specs.Ring.{IsShape}
 use Rattle.fl_model.specs.Table.{Table, Entry, DataRing, IndexRing, VarRing, shape_of, after_seal, after_seals, table_seals, fill, has_rows, is_after, is_rows_spent, log_pages, owed}
-use Rattle.fl_model.proofs.Lists.{all-back}
+use Rattle.fl_model.proofs.Lists.{each-back, each-weaker, last_or-back}
 use Rattle.fl_machine.specs.Found.{HasRoom}
-use Rattle.fl_machine.proofs.Logs.{core, front_of, Tops, all_weaker, filter_none, front-all, is_last, last-append, last-key, not-lt, replayed-owed, ascending-tops}
-use Rattle.fl_machine.proofs.LogTables.{marked-by, seals_by}
+use Rattle.fl_machine.proofs.Logs.{core, front_of, Tops, filter_none, front-all}
+use Rattle.fl_machine.proofs.LogSeals.{is_last, last-key, ascending-tops}
+use Rattle.fl_machine.proofs.LogReplays.{replayed-owed}
+use Rattle.fl_machine.proofs.LogOperations.{marked-by}
+use Rattle.fl_machine.proofs.LogTables.{seals_by}
 
 -- ---- lists
 
@@ -34,7 +38,7 @@ last-kept test (x ∷ y ∷ ys) w o e k = by-test (test x) (last-kept test (y �
 
 -- where the last of them, which has the greatest key, isn't above others, none of them is
 below-all : (others es : List Entry) (w : Entry) → last_or None es ≡ Some w → Tops es → is_after others w ≡ false → filter (λ e. is_after others e) es ≡ []
-below-all others es w e tops below = filter_none (λ x. is_after others x) es (all_weaker (λ x. x.kept.key ≤ last_key_of) (λ x. is_after others x ≡ false) (λ x le. by-last x le (last_or None others) refl below) es tops)
+below-all others es w e tops below = filter_none (λ x. is_after others x) es (each-weaker (λ x. x.kept.key ≤ last_key_of) (λ x. is_after others x ≡ false) (λ x le. by-last x le (last_or None others) refl below) es tops)
   where
     last_key_of : ℕ
     last_key_of = unwrap_or (option_map (λ (x : Entry). x.kept.key) (last_or None es)) 0
@@ -44,7 +48,7 @@ below-all others es w e tops below = filter_none (λ x. is_after others x) es (a
     by-last x le (Some l) q k =
         let more = ltb-false l.kept.key w.kept.key k in
         let key = last-key es w e in
-        ap (λ (o : Option Entry). unwrap_or (option_map (λ (l : Entry). nat_lt l.kept.key x.kept.key) o) true) q ∙ not-lt l.kept.key x.kept.key (omega (arith, le, key, more))
+        ap (λ (o : Option Entry). unwrap_or (option_map (λ (l : Entry). nat_lt l.kept.key x.kept.key) o) true) q ∙ le-ltb l.kept.key x.kept.key (omega (arith, le, key, more))
 
 -- behind those of them that are above others none of them is
 above-none : (others es front : List Entry) → Tops es → 0 < length (filter (λ e. is_after others e) es) → filter (λ e. is_after (front ++ filter (λ e. is_after others e) es) e) es ≡ []
@@ -53,10 +57,6 @@ above-none others es front tops some = by-last (is_last es)
     none-kept : filter (λ e. is_after others e) es ≡ [] → ⊥
     none-kept z = let n : length (filter (λ e. is_after others e) es) ≡ 0 = ap (λ (xs : List Entry). length xs) z in omega (arith, n, some)
 
-    last-part : (xs ys : List Entry) → 0 < length ys → last_or None (xs ++ ys) ≡ last_or None ys
-    last-part xs [] n = absurd (omega (arith, n))
-    last-part xs (y ∷ ys) n = last-append None xs y ys
-
     by-last : (es ≡ []) ⊎ ((w : Entry) × (last_or None es ≡ Some w)) → filter (λ e. is_after (front ++ filter (λ e. is_after others e) es) e) es ≡ []
     by-last (inl z) = absurd (none-kept (ap (filter (λ e. is_after others e)) z))
     by-last (inr (w, e)) = by-test (is_after others w) refl
@@ -64,10 +64,10 @@ above-none others es front tops some = by-last (is_last es)
         by-test : (b : Bool) → is_after others w ≡ b → filter (λ e. is_after (front ++ filter (λ e. is_after others e) es) e) es ≡ []
         by-test false k = absurd (none-kept (below-all others es w e tops k))
         by-test true k =
-            let last : last_or None (front ++ filter (λ e. is_after others e) es) ≡ Some w = last-part front (filter (λ e. is_after others e) es) some ∙ last-kept (λ e. is_after others e) es w None e k in
+            let last : last_or None (front ++ filter (λ e. is_after others e) es) ≡ Some w = last_or-back None front (filter (λ e. is_after others e) es) some ∙ last-kept (λ e. is_after others e) es w None e k in
             filter_none (λ e. is_after (front ++ filter (λ e. is_after others e) es) e) es
-            (all_weaker (λ x. x.kept.key ≤ unwrap_or (option_map (λ (y : Entry). y.kept.key) (last_or None es)) 0) (λ x. is_after (front ++ filter (λ e. is_after others e) es) x ≡ false)
-            (λ x le. let key = last-key es w e in ap (λ (o : Option Entry). unwrap_or (option_map (λ (l : Entry). nat_lt l.kept.key x.kept.key) o) true) last ∙ not-lt w.kept.key x.kept.key (omega (arith, le, key)))
+            (each-weaker (λ x. x.kept.key ≤ unwrap_or (option_map (λ (y : Entry). y.kept.key) (last_or None es)) 0) (λ x. is_after (front ++ filter (λ e. is_after others e) es) x ≡ false)
+            (λ x le. let key = last-key es w e in ap (λ (o : Option Entry). unwrap_or (option_map (λ (l : Entry). nat_lt l.kept.key x.kept.key) o) true) last ∙ le-ltb w.kept.key x.kept.key (omega (arith, le, key)))
             es tops)
 
 -- ---- the records of a log
@@ -77,7 +77,7 @@ pub logged-tops : (plan : Plan) (table : Table) → AllByRecursion (IsLogPage pl
 logged-tops plan table fit some = by-rows (has_rows table.log) refl fit
   where
     by-rows : (b : Bool) → has_rows table.log ≡ b → AllByRecursion (IsLogPage plan) (table.logged_before ++ cond b (table.logged ∷ []) []) → Tops table.logged
-    by-rows true e h = ascending-tops table.logged (all-back (IsLogPage plan) table.logged_before (table.logged ∷ []) h).0.ascending
+    by-rows true e h = ascending-tops table.logged (each-back (IsLogPage plan) table.logged_before (table.logged ∷ []) h).0.ascending
     by-rows false e h = subst Tops (sym (some e)) tt
 
 -- ---- the seals of what joined
@@ -128,10 +128,6 @@ module _ (plan : Plan) (shape : IsShape (shape_of (bare plan) DataRing)) where
     nothing [] e = refl
     nothing (x ∷ xs) e = absurd (let none = eqb-true (length (x ∷ xs)) 0 e in omega (arith, none))
 
-    some-of : (es : List Entry) → (length es == 0) ≡ false → 0 < length es
-    some-of [] e = absurd (true≢false e)
-    some-of (x ∷ xs) e = omega arith
-
     -- no page can be sealed, so none was
     spent : (z a b : Bool) → (y.pending == 0) ≡ z → is_rows_spent y ≡ true → is_rows_spent (sealed_by y z a b) ≡ false → owed (sealed_by y z a b) ≡ []
     spent true a b e s left = absurd (true≢false (sym s ∙ left))
@@ -144,7 +140,7 @@ module _ (plan : Plan) (shape : IsShape (shape_of (bare plan) DataRing)) where
         let last = sealed_by with_owed false a b in
         let front : front_of (core (sealed_by with_owed false a b)) ≡ drop s.gone y.entries ++ owed y = front-all (core last) s.none ∙ s.entries in
         let whole : front_of (core y) ≡ y.entries = front-all (core y) none in
-        ap (λ (es : List Entry). filter (λ e. is_after es e) y.logged) front ∙ above-none (front_of (core y)) y.logged (drop s.gone y.entries) tops (some-of (owed y) e)
+        ap (λ (es : List Entry). filter (λ e. is_after es e) y.logged) front ∙ above-none (front_of (core y)) y.logged (drop s.gone y.entries) tops (some_from (length (owed y)) e)
 
     pub sealed-paid : is_rows_spent (beside (log_of (joined y)) (after_seals (bare plan) (table_seals (bare plan) (bare_table (joined y))) (bare_table (joined y)))) ≡ false →
         owed (beside (log_of (joined y)) (after_seals (bare plan) (table_seals (bare plan) (bare_table (joined y))) (bare_table (joined y)))) ≡ []

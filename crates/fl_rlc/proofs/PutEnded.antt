@@ -14,6 +14,7 @@ use Rattle.fl_model.specs.Table as model
 use Rattle.fl_model.specs.Table.{Table, Refusal, BadKey, BadColumns, BadValue, BadBlob, put_record, refusal_of, first_of, refuse_if, is_ring_spent}
 use Rattle.fl_model.specs.Work.{Device}
 use Rattle.fl_model.proofs.Bare.{bare-tables}
+use Rattle.fl_model.proofs.Accepted.{accepted}
 use Rattle.fl_frame.specs.Watched.{IsWatched}
 use Rattle.fl_table.specs.Look.{layout_in}
 use Rattle.fl_table.specs.Mounting.{OutsideStands}
@@ -23,7 +24,6 @@ use Rattle.fl_table.specs.declared.faults.PutRefusal.{PutRefusal}
 use Rattle.fl_table.specs.declared.faults.PutRefusal.TheVariants as put
 use Rattle.fl_table.specs.declared.faults.PutRefusal.TheVariants.{Spent}
 use Rattle.fl_table.specs.Refusal.{or_else, refused_if, RefusesAs, put_refusal as table_refusal}
-use Rattle.fl_parts.proofs.Accepted.{accepted}
 use Rattle.fl_parts.proofs.Bare.{bare-table}
 use Rattle.fl_table.proofs.Refusals.{answer_of, refusals-agree}
 use Rattle.fl_rlc.specs.Logged.{Stands, LogStands}

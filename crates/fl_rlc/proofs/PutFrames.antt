@@ -1,5 +1,5 @@
 -- What a put of a table with a log leaves as it was.
-use Rattle.std.proofs.Common.{◌≡◌, ℕ, ◌+◌, ◌*◌, ◌^◌, ◌<◌, ◌≤◌, Bool, true, false, ◌&&◌, is_some, Option, Some, None, Err, List, refl, sym, ◌∙◌, ap, subst, arith}
+use Rattle.std.proofs.Common.{◌≡◌, ℕ, ◌+◌, ◌≤◌, Bool, true, false, is_some, Option, Some, None, Err, List, refl, sym, ◌∙◌, ap, subst, arith}
 use Rattle.std.proofs.Math.IntN.{ℤ}
 use Rattle.std.proofs.Props.{props}
 use Rattle.std.specs.Prelude.{IfSome}
@@ -8,20 +8,21 @@ use Rattle.std.proofs.lemmas.Option.{none-some, same_Some}
 use Rattle.fl_flash.specs.Flash.{FlashState, StaysWith}
 use Rattle.fl_model.specs.Record.{RowLayout, layout_len}
 use Rattle.fl_base.specs.declared.types.RingPlace.{RingPlace}
+use Rattle.fl_frame.proofs.CallsInTurn.{few-goes}
 use Rattle.fl_ring.specs.Place as place
 use Rattle.fl_ring.specs.declared.ring.Ring.{Ring}
+use Rattle.fl_ring.proofs.Exists.{lies_still}
 use Rattle.fl_table.specs.BlobAt.{has_blobs}
-use Rattle.fl_parts.specs.Blobs as variable
 use Rattle.fl_table.specs.Causes.{put_breaks}
 use Rattle.fl_table.specs.Look.{layout_in}
 use Rattle.fl_table.specs.Memory as table_words
 use Rattle.fl_parts.specs.Bitmaps.{IsOutside}
+use Rattle.fl_parts.proofs.BlobsOfTable.{same-some}
 use Rattle.fl_table.specs.Refusal.{or_else, refused_if, RefusesAs, put_refusal as table_refusal}
 use Rattle.fl_table.specs.declared.faults.PutRefusal.{PutRefusal}
 use Rattle.fl_table.specs.declared.faults.PutRefusal.TheVariants as put
 use Rattle.fl_table.specs.declared.table.Table as code
 use Rattle.fl_table.proofs.Refusals.{refusal-calm}
-use Rattle.fl_var.specs.declared.var_data.VarData.{VarData}
 use Rattle.fl_rlc.specs.Memory.{is_mounted, page_len, log_shape, LiesOn}
 use Rattle.fl_rlc.specs.Refusal.{log_refused, put_refusal, RefusedSame}
 use Rattle.fl_rlc.specs.Rows.{StandOutside, AreBegun}
@@ -63,23 +64,15 @@ pub log-moved : {Power : Type 0} (l : RecordLog) (f g : FlashState) → StaysWit
 log-moved l f g goes h = record {
   geometry = goes.geometry ∙ h.geometry;
   within = omega (arith, h.within, goes.blocks);
-  few = subst (λ k. k < 2 ^ 32) (sym (ap (λ k. k * g.geometry.block) goes.blocks ∙ ap (λ x. f.blocks * x.block) goes.geometry)) h.few;
-  ring = λ ring is.
-      let r = h.ring ring is in
-      record { page = ap (λ x. x.page) goes.geometry ∙ r.page; block = ap (λ x. x.block) goes.geometry ∙ r.block; within = omega (arith, r.within, goes.blocks) };
+  few = few-goes f g goes h.few;
+  ring = λ ring is. lies_still ring f g (h.ring ring is) goes;
 }
 
 pub log-lies : {Power : Type 0} (o : Option RecordLog) (f g : FlashState) → StaysWith Power f g → ForSome o (λ l. LiesOn l f) → ForSome o (λ l. LiesOn l g)
 log-lies o f g goes lies = λ l is. log-moved l f g goes (lies l is)
 
 pub blobs-same : {KNOTS SLOTS : ℕ} (t u : code.Table KNOTS SLOTS) → table_words.IsSamePlan t u → has_blobs u ≡ has_blobs t
-blobs-same t u same = by-blobs t.blobs u.blobs same.blobs
-  where
-    by-blobs : (a b : Option VarData) → variable.AreSamePlan a b → is_some b ≡ is_some a
-    by-blobs None None h = refl
-    by-blobs None (Some w) h = absurd h
-    by-blobs (Some v) None h = absurd h
-    by-blobs (Some v) (Some w) h = refl
+blobs-same t u same = same-some t.blobs u.blobs same.blobs
 
 -- a row has room in the log's page as before
 pub room-same : {KNOTS SLOTS : ℕ} (t u : code.Table KNOTS SLOTS) (a b : Option RecordLog) → table_words.IsSamePlan t u → AreSameLog a b → ForSome a (λ l. layout_len (layout_in t) + 24 ≤ page_len l) → ForSome b (λ l. layout_len (layout_in u) + 24 ≤ page_len l)
@@ -136,14 +129,6 @@ some-same None None same h = h
 some-same None (Some w) same h = absurd same
 some-same (Some v) None same h = absurd same
 some-same (Some v) (Some w) same h = refl
-
-pub and-left : (a b : Bool) → (a && b) ≡ true → a ≡ true
-and-left true b e = refl
-and-left false b e = cc
-
-pub not-both : (b : Bool) → b ≡ true → b ≡ false → ⊥
-not-both true e k = cc
-not-both false e k = cc
 
 -- a log whose next page has begun anew
 pub begun-same : (a b : Option RecordLog) → AreBegun a b → AreSameLog a b

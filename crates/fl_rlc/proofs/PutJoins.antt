@@ -1,7 +1,7 @@
 -- The record that a put of the table has made pending is to join the rows of its log.
 use Rattle.std.proofs.Common.{◌≡◌, ℕ, ◌+◌, ◌-◌, ◌*◌, ◌/◌, ◌≤◌, inl, inr, Bool, true, false, cond, ◌==◌, nat_lt, Option, Some, None, List, [], ◌∷◌, ◌++◌, length, map, refl, sym, ◌∙◌, ap, subst, arith, eq-eqb, length-append}
 use Rattle.std.proofs.Math.Nat.{le-div_iff_mul-le, add-mul}
-use Rattle.std.proofs.lemmas.Bool.{cases_lt, eqb-true, lt-ltb, false≢true}
+use Rattle.std.proofs.lemmas.Bool.{cases_lt, eqb-true, lt-ltb, false≢true, le-ltb}
 use Rattle.std.proofs.lemmas.List.{length-map, map_push}
 use Rattle.fl_base.specs.declared.types.Geometry.{Geometry}
 use Rattle.fl_flash.specs.Flash.{FlashState, page_at}
@@ -12,7 +12,6 @@ use Rattle.fl_model.specs.Record.{Record, Plan, RowLayout, row_layout, layout_le
 use Rattle.fl_model.specs.Row.{Row, stored_row}
 use Rattle.fl_model.specs.Table.{Table, Entry, log_pages, pending_entries, put_record, with_room}
 use Rattle.fl_model.specs.Work.{Device}
-use Rattle.fl_machine.proofs.Logs.{not-lt}
 use Rattle.fl_page.specs.Writer.{Gathers}
 use Rattle.fl_table.specs.Look.{layout_in}
 use Rattle.fl_table.specs.Mounting.{OutsideStands}
@@ -66,7 +65,7 @@ module _ {KNOTS SLOTS : ℕ} (t : LoggedTable KNOTS SLOTS) (l : RecordLog) (t_is
                 absurd (omega (arith, more, full))
           ]))
       by-full false e =
-          sym (not-lt (length l.rows.body) (l.rows.end + layout_len (row_layout plan)) (elim (cases_lt table.pending (rows_per_page plan)) [
+          sym (le-ltb (length l.rows.body) (l.rows.end + layout_len (row_layout plan)) (elim (cases_lt table.pending (rows_per_page plan)) [
             | inl less ↦
                 let fits : (table.pending + 1) * layout_len (row_layout plan) ≤ plan.geometry.page - 24 =
                 (le-div_iff_mul-le {k = layout_len (row_layout plan)} {x = table.pending + 1} {y = plan.geometry.page - 24} some).0 (omega (arith, less)) in

@@ -3,6 +3,7 @@ use Rattle.std.proofs.Common.{◌≡◌, ℕ, zero, suc, ◌+◌, ◌-◌, ◌/�
 use Rattle.std.proofs.lemmas.Bool.{eqb-true}
 use Rattle.std.proofs.lemmas.List.{append-nil}
 use Rattle.std.specs.List.{AllByRecursion, slice_get}
+use Rattle.std.proofs.Math.Seq.{drop-length}
 use Rattle.fl_model.specs.Facts.{FitsPlan, IsLogPage}
 use Rattle.fl_model.proofs.Lists.{each-drop, slice_get-drop}
 use Rattle.fl_model.specs.Record.{Record, Plan, rows_per_page, has_index, entries_per_page, content_per_page}
@@ -14,11 +15,7 @@ abbrev pub entry_of : Plan → Record → Table → Entry
 entry_of plan item table = record { kept = item; page = start_page plan (blob_len item) table; offset = start_offset plan (blob_len item) table }
 
 pub none-left : (t : Table) → t.pending ≡ 0 → pending_entries t ≡ []
-none-left t e = ap (λ n. drop n t.entries) (let k : length t.entries - t.pending ≡ length t.entries = omega (arith, e) in k) ∙ all-gone t.entries
-  where
-    all-gone : {X : Type 0} (xs : List X) → drop (length xs) xs ≡ []
-    all-gone [] = refl
-    all-gone (x ∷ xs) = all-gone xs
+none-left t e = ap (λ n. drop n t.entries) (let k : length t.entries - t.pending ≡ length t.entries = omega (arith, e) in k) ∙ drop-length t.entries
 
 -- a table that is sealed has nothing pending
 pub sealed-none : (plan : Plan) (t : Table) (z a b : Bool) → (t.pending == 0) ≡ z →

@@ -4,13 +4,12 @@ use Rattle.std.proofs.lemmas.List.{append-nil}
 use Rattle.fl_model.specs.Bare.{bare, bare_table, Log, log_of, beside, end_beside, progress_beside, AreBare}
 use Rattle.fl_model.specs.Puts.{TablePuts, TablePutGoesOn}
 use Rattle.fl_model.specs.Record.{Record, Plan, has_log}
-use Rattle.fl_model.specs.Table.{Table, RingName, IndexRing, DataRing, VarRing, LogRing, after_seal, after_seals, make_room_seals, put_joined, put_record, join_seals, log_seals, fill_seals}
+use Rattle.fl_model.specs.Table.{Table, RingName, VarRing, LogRing, after_seal, after_seals, make_room_seals, put_joined, put_record, join_seals, log_seals, fill_seals}
 use Rattle.fl_model.specs.Within.{seal_within, seals_within, effect_within, TablePerforms}
 use Rattle.fl_model.specs.Work.{Kind, Device, PartEnd, Whole, CutIn, FailedIn, PartProgress}
-use Rattle.fl_model.proofs.Among.{after_seals-append, seals-all_done}
-use Rattle.fl_model.proofs.Bare.{bare-tables, room-bare}
+use Rattle.fl_model.proofs.Among.{after_seals-append, seals-all_done, within-append}
+use Rattle.fl_model.proofs.Bare.{bare-tables, room-bare, seals-beside}
 use Rattle.fl_model.proofs.Performs.{performs-front, performs-more, performs-whole}
-use Rattle.fl_parts.proofs.InTurn.{within-append}
 use Rattle.fl_rlc.proofs.Stops.{unbeside}
 
 -- ---- seals of other rings than the log
@@ -21,14 +20,6 @@ vars-bare (suc n) = (tt, vars-bare n)
 
 fills-bare : (plan : Plan) (t : Table) → AreBare (join_seals (bare plan) t)
 fills-bare plan t = subst AreBare (sym (append-nil (fill_seals (bare plan) t))) (vars-bare _)
-
--- what is left of the table without its log, where its seals were done
-seals-beside : (plan : Plan) (L : Log) (rings : List RingName) (t : Table) → AreBare rings → after_seals plan rings (beside L t) ≡ beside L (after_seals (bare plan) rings t)
-seals-beside plan L [] t h = refl
-seals-beside plan L (IndexRing ∷ rings) t h = seals-beside plan L rings (after_seal (bare plan) IndexRing t) h.1
-seals-beside plan L (DataRing ∷ rings) t h = seals-beside plan L rings (after_seal (bare plan) DataRing t) h.1
-seals-beside plan L (VarRing ∷ rings) t h = seals-beside plan L rings (after_seal (bare plan) VarRing t) h.1
-seals-beside plan L (LogRing ∷ rings) t h = absurd h.0
 
 -- ---- a put
 

@@ -1,5 +1,5 @@
 -- How a put of a table with a log ends, by that of the table without it and by the seal of the log.
-use Rattle.std.proofs.Common.{◌≡◌, ℕ, ◌+◌, Bool, true, false, nat_le, Option, Some, None, is_some, List, refl, sym, ◌∙◌, ap, subst, arith}
+use Rattle.std.proofs.Common.{◌≡◌, ℕ, ◌+◌, Bool, true, false, nat_le, Option, Some, None, List, refl, sym, ◌∙◌, ap, subst}
 use Rattle.std.proofs.Math.Path.{fun_ext}
 use Rattle.std.proofs.lemmas.Option.{same_Some}
 use Rattle.fl_flash.specs.Flash.{FlashState, page_at}
@@ -8,9 +8,9 @@ use Rattle.fl_model.specs.Bare.{bare, bare_table, log_of, beside, end_beside, pr
 use Rattle.fl_model.specs.Facts.{is_some_ring}
 use Rattle.fl_model.specs.Puts.{TablePuts, TablePutGoesOn}
 use Rattle.fl_model.specs.Record.{Record, Plan, blocks_of, has_index, has_log, has_var}
-use Rattle.fl_model.specs.Ring.{Ring, IsShape}
+use Rattle.fl_model.specs.Ring.{Ring}
 use Rattle.fl_model.specs.Table as model
-use Rattle.fl_model.specs.Table.{Table, DataRing, IndexRing, VarRing, LogRing, Refusal, shape_of, after_seal, put_joined, put_record, join_seals, make_room_seals, refusal_of, first_of, refuse_if, is_ring_spent, log_pages, lose}
+use Rattle.fl_model.specs.Table.{Table, DataRing, IndexRing, VarRing, LogRing, Refusal, after_seal, put_joined, put_record, join_seals, make_room_seals, refusal_of, first_of, refuse_if, is_ring_spent, log_pages, lose}
 use Rattle.fl_model.specs.Within.{TablePerforms, seals_within}
 use Rattle.fl_model.specs.Work.{Device, PartEnd, Whole, CutIn, FailedIn, PartProgress}
 use Rattle.fl_model.proofs.Bare.{bare-tables}
@@ -20,7 +20,6 @@ use Rattle.fl_machine.proofs.Logs.{core, IsFine, lost}
 use Rattle.fl_machine.proofs.LogTables.{Between, put-goes, put-joined, join-goes-on}
 use Rattle.fl_ring.specs.Kept.{PagesStand}
 use Rattle.fl_ring.specs.Ring as ring
-use Rattle.fl_parts.specs.Blobs.{ArePlanned}
 use Rattle.fl_table.specs.Mounting.{OutsideStands}
 use Rattle.fl_parts.specs.Failing as failing
 use Rattle.fl_table.specs.Outcomes as bare_outcomes
@@ -31,9 +30,6 @@ use Rattle.fl_table.specs.Standing as table_words
 use Rattle.fl_table.specs.declared.table.Table as code
 use Rattle.fl_table.specs.declared.faults.PutRefusal.TheVariants.{Spent}
 use Rattle.fl_table.specs.Refusal.{refused_if}
-use Rattle.fl_parts.proofs.BlobsOfTable.{planned-none}
-use Rattle.fl_table.proofs.SealAnswers.{planned-shape}
-use Rattle.fl_var.specs.declared.var_data.VarData.{VarData}
 use Rattle.fl_parts.proofs.Apart.{PagesApart}
 use Rattle.fl_table.proofs.Apart.{stands-apart}
 use Rattle.fl_rlc.specs.Logged.{Stands, LogStands, IsKept}
@@ -45,7 +41,7 @@ use Rattle.fl_rlc.specs.Sealing as sealing
 use Rattle.fl_rlc.specs.Standing as log_words
 use Rattle.fl_rlc.specs.declared.log.RecordLog.{RecordLog}
 use Rattle.fl_rlc.specs.declared.table.LoggedTable.{LoggedTable}
-use Rattle.fl_rlc.proofs.Assembled.{bare-same, log-there, stands-of, stands-rest, rests-of}
+use Rattle.fl_rlc.proofs.Assembled.{bare-same, log-there, stands-of, stands-rest, rests-of, has-room}
 use Rattle.fl_rlc.proofs.Frames.{log-bytes, log-still, table-still}
 use Rattle.fl_rlc.proofs.KeptRecords.{between-of}
 use Rattle.fl_rlc.proofs.PutSteps.{put-is, put-then, put-fails}
@@ -62,18 +58,7 @@ module _ {KNOTS SLOTS : ℕ} (t : LoggedTable KNOTS SLOTS) (l : RecordLog) (t_is
   has = log-there l (first + blocks_of (bare plan)) plan log-stands.0.ring.planned
 
   pub room : HasRoom plan
-  room =
-      let shape : IsShape (shape_of (bare plan) DataRing) = planned-shape t.table first (bare plan) h.unlogged.planned in
-      record {
-        blocks = shape.blocks;
-        pages = shape.pages;
-        log_blocks = λ some. omega (arith, log-stands.0.ring.planned.blocks, l.some_blocks);
-        no_var = λ some. by-blobs t.table.blobs (t.no_blobs (ap (λ (o : Option RecordLog). is_some o) t_is)) h.unlogged.planned.var;
-      }
-    where
-      by-blobs : (o : Option VarData) → is_some o ≡ false → ArePlanned o (first + plan.data_blocks + plan.index_blocks) (bare plan) → has_var plan ≡ false
-      by-blobs None e p = planned-none (first + plan.data_blocks + plan.index_blocks) (bare plan) p
-      by-blobs (Some v) e p = cc
+  room = has-room t l first plan t_is h.unlogged.planned log-stands.0.ring.planned
 
   pub between : Between Any table
   between = between-of plan table hr.ring hr.ring_is hr.whole h.unlogged.whole h.facts log-stands.1

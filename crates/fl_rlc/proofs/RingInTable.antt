@@ -1,46 +1,21 @@
 -- The operations of a log are those of its table.
-use Rattle.std.proofs.Common.{◌≡◌, ℕ, zero, suc, ◌+◌, ◌≤◌, Bool, true, false, cond, ◌||◌, nat_lt, Option, Some, None, Result, Ok, Err, List, [], ◌∷◌, ◌++◌, map, drop, length, refl, sym, ◌∙◌, ap, subst, arith, IsOk, IsErrOf}
+use Rattle.std.proofs.Common.{◌≡◌, ℕ, zero, suc, ◌+◌, ◌≤◌, Bool, true, false, cond, ◌||◌, nat_lt, Option, Some, None, List, [], ◌∷◌, ◌++◌, drop, length, refl, sym, ◌∙◌, ap, subst, arith}
 use Rattle.std.specs.Prelude.{option_map, unwrap_or}
 use Rattle.std.specs.List.{list_any}
 use Rattle.std.proofs.lemmas.Bool.{lt-ltb, false≢true, true≢false}
 use Rattle.std.proofs.lemmas.List.{append-nil}
-use Rattle.fl_flash.specs.Flash.{FlashState}
-use Rattle.fl_flash.specs.declared.flash.FlashFault.{FlashFault}
-use Rattle.fl_flash.specs.declared.flash.FlashFault.TheVariants.{PowerLost, Media}
 use Rattle.fl_model.specs.Bare.{bare_table}
 use Rattle.fl_model.specs.Record.{Plan}
 use Rattle.fl_model.specs.Ring as model
-use Rattle.fl_model.specs.Table.{Table, Entry, RingName, LogRing, shape_of, full_pages, pages_given_up, pending_entries, has_rows, log_pages}
-use Rattle.fl_model.specs.Work.{Kind, Body, Mark, VoidMark, Erase, effect, Device, PartEnd, Whole, CutIn, FailedIn, PartProgress}
-use Rattle.fl_model.specs.Within.{effect_within, TablePerforms}
-use Rattle.fl_model.proofs.Performs.{performs-along, performs-map, EndsAlong, Somewhere}
+use Rattle.fl_model.specs.Table.{Table, Entry, LogRing, shape_of, full_pages, pages_given_up, pending_entries, has_rows, log_pages}
+use Rattle.fl_model.specs.Work.{Kind, Body, Mark, VoidMark, Erase, effect}
 use Rattle.fl_ring.specs.Counts.{model_shape}
-use Rattle.fl_frame.specs.Device.{SameDevice}
 use Rattle.fl_ring.specs.Operations.{change}
 use Rattle.fl_ring.specs.Ring.{Shape, RingState, IsShape, count, oldest, sealed, voided}
-use Rattle.fl_ring.specs.Sealing.{Performed, AnswersEnd}
+use Rattle.fl_ring.proofs.Bodies.{HoldBodies, kept-known, kept-next, kept-torn, sealed-bodies, voided-bodies}
 use Rattle.fl_ring.proofs.Counts.{counts_sealed, counts_voided}
-use Rattle.fl_parts.specs.Failing.{FaultEnds}
-use Rattle.fl_rlc.proofs.Bodies.{counted, counts_of, rows_of, IsBody, HoldBodies, kept-known, kept-next, kept-torn, sealed-bodies, voided-bodies}
-
--- an operation of the log
-abbrev pub of_log : Kind → RingName × Kind
-of_log kind = (LogRing, kind)
-
--- what is left of the operations of a seal, and of a repair
-abbrev pub AreErases : List Kind → Type 0
-AreErases [] = Unit {0}
-AreErases (Erase ∷ kinds) = AreErases kinds
-AreErases (Body ∷ kinds) = ⊥
-AreErases (Mark ∷ kinds) = ⊥
-AreErases (VoidMark ∷ kinds) = ⊥
-
-abbrev pub BeginsMark : List Kind → Type 0
-BeginsMark [] = Unit {0}
-BeginsMark (Mark ∷ kinds) = AreErases kinds
-BeginsMark (Body ∷ kinds) = ⊥
-BeginsMark (VoidMark ∷ kinds) = ⊥
-BeginsMark (Erase ∷ kinds) = ⊥
+use Rattle.fl_ring.proofs.InTable.{AreErases, BeginsMark}
+use Rattle.fl_rlc.proofs.Bodies.{counted, counts_of, rows_of, IsBody, some-rows}
 
 -- the number of the page after the kept ones is small enough
 abbrev pub IsSmall : RingState → Type 0
@@ -62,7 +37,7 @@ HasCome plan body bare (Erase ∷ kinds) s = IsSmall s × AreErases kinds
 -- the ring's state is that of the table's log, of which these operations are left; without its log the table is this one
 pub record IsRingOf (plan : Plan) (body : List ℕ) (bare : Table) (kinds : List Kind) (s : RingState) (table : Table) : Type 0 where
   pub log_is : table.log ≡ Some (counted s)
-  pub bodies : HoldBodies plan (oldest s) s.kept (log_pages table)
+  pub bodies : HoldBodies (IsBody plan) (oldest s) s.kept (log_pages table)
   pub logged_some : has_rows table.log ≡ false → table.logged ≡ []
   pub rest : bare_table table ≡ bare
   pub known : count s ≤ s.next
@@ -105,7 +80,7 @@ is_more [] = false
 is_more (x ∷ xs) = true
 
 -- there are records where there is a page with some
-any-pages : (plan : Plan) (n : ℕ) (kept : List (Option (List ℕ))) (pages : List (List Entry)) → HoldBodies plan n kept pages → list_any (nat_lt 0) (counts_of kept) ≡ is_more pages
+any-pages : (plan : Plan) (n : ℕ) (kept : List (Option (List ℕ))) (pages : List (List Entry)) → HoldBodies (IsBody plan) n kept pages → list_any (nat_lt 0) (counts_of kept) ≡ is_more pages
 any-pages plan n [] [] h = refl
 any-pages plan n [] (p ∷ pages) h = absurd h
 any-pages plan n (None ∷ kept) pages h = any-pages plan (n + 1) kept pages h
@@ -113,7 +88,7 @@ any-pages plan n (Some body ∷ kept) [] h = absurd h
 any-pages plan n (Some body ∷ kept) (p ∷ pages) h =
     ap (λ (b : Bool). b || list_any (nat_lt 0) (counts_of kept)) (lt-ltb 0 (rows_of body) (omega (arith, h.0.count, h.0.good.some)))
 
-pub has-pages : (plan : Plan) (s : RingState) (pages : List (List Entry)) → HoldBodies plan (oldest s) s.kept pages → has_rows (Some (counted s)) ≡ is_more pages
+pub has-pages : (plan : Plan) (s : RingState) (pages : List (List Entry)) → HoldBodies (IsBody plan) (oldest s) s.kept pages → has_rows (Some (counted s)) ≡ is_more pages
 has-pages plan s pages h = any-pages plan (oldest s) s.kept pages h
 
 more-pushed : {X : Type 0} (xs : List X) (x : X) → is_more (xs ++ x ∷ []) ≡ true
@@ -172,8 +147,8 @@ module _ (r : Shape) (plan : Plan) (body : List ℕ) (bare : Table) (shape : IsS
     gone-same : full_pages (model.given_up (model_shape r) (rows_of body) (counted s)) ≡ pages_given_up plan LogRing table.pending table
     gone-same = gone-is (rows_of body) s table h.log_is ∙ ap (λ (c : ℕ). pages_given_up plan LogRing c table) count-is
 
-    all : HoldBodies plan (oldest (sealed r s body)) (sealed r s body).kept (drop (full_pages (model.given_up (model_shape r) (rows_of body) (counted s))) (log_pages table) ++ pending_entries bare ∷ [])
-    all = sealed-bodies r s shape h.known plan (log_pages table) body (pending_entries bare) m.body_is h.bodies
+    all : HoldBodies (IsBody plan) (oldest (sealed r s body)) (sealed r s body).kept (drop (full_pages (model.given_up (model_shape r) (rows_of body) (counted s))) (log_pages table) ++ pending_entries bare ∷ [])
+    all = sealed-bodies (IsBody plan) rows_of (some-rows plan) r s shape h.known (log_pages table) body (pending_entries bare) m.body_is h.bodies
 
     some-now : has_rows (option_map (model.sealed (shape_of plan LogRing) table.pending) table.log) ≡ true
     some-now =
@@ -190,12 +165,12 @@ module _ (r : Shape) (plan : Plan) (body : List ℕ) (bare : Table) (shape : IsS
     marked : IsRingOf plan body bare kinds (sealed r s body) (effect plan LogRing Mark table)
     marked = record {
       log_is = log-now;
-      bodies = subst (λ (ps : List (List Entry)). HoldBodies plan (oldest (sealed r s body)) (sealed r s body).kept ps) (sym pages-now) all;
+      bodies = subst (λ (ps : List (List Entry)). HoldBodies (IsBody plan) (oldest (sealed r s body)) (sealed r s body).kept ps) (sym pages-now) all;
       logged_some = λ none. cond-none (has_rows (option_map (model.sealed (shape_of plan LogRing) table.pending) table.log)) (pending_entries table) none;
       rest = h.rest;
-      known = kept-known r s (Some body) shape h.known;
+      known = kept-known r s (Some body) h.known;
       come = erases-come plan body bare kinds (sealed r s body)
-          (small-by (sealed r s body) (kept-torn r s (Some body) shape h.known) (let k = m.small in omega (arith, kept-next r s (Some body) shape h.known, k))) h.come.1;
+          (small-by (sealed r s body) (kept-torn r s (Some body)) (let k = m.small in omega (arith, kept-next r s (Some body), k))) h.come.1;
     }
 
   -- a torn page is given up
@@ -208,11 +183,11 @@ module _ (r : Shape) (plan : Plan) (body : List ℕ) (bare : Table) (shape : IsS
         ap (option_map (model.sealed (shape_of plan LogRing) 0)) h.log_is
         ∙ ap (λ (ring : model.Ring). Some ring) (ap (λ (x : model.Shape). model.sealed x 0 (counted s)) (sym here) ∙ sym (counts_voided rows_of r s))
 
-    left : HoldBodies plan (oldest (voided r s)) (voided r s).kept (drop (pages_given_up plan LogRing 0 table) (log_pages table))
+    left : HoldBodies (IsBody plan) (oldest (voided r s)) (voided r s).kept (drop (pages_given_up plan LogRing 0 table) (log_pages table))
     left =
-        subst (λ (ps : List (List Entry)). HoldBodies plan (oldest (voided r s)) (voided r s).kept ps)
+        subst (λ (ps : List (List Entry)). HoldBodies (IsBody plan) (oldest (voided r s)) (voided r s).kept ps)
         (append-nil (drop (full_pages (model.given_up (model_shape r) 0 (counted s))) (log_pages table)) ∙ ap (λ n. drop n (log_pages table)) (gone-is 0 s table h.log_is))
-        (voided-bodies r s shape h.known plan (log_pages table) h.bodies)
+        (voided-bodies (IsBody plan) rows_of (some-rows plan) r s shape h.known (log_pages table) h.bodies)
 
     some-left : has_rows (option_map (model.sealed (shape_of plan LogRing) 0) table.log) ≡ is_more (drop (pages_given_up plan LogRing 0 table) (log_pages table))
     some-left = ap has_rows void-now ∙ has-pages plan (voided r s) (drop (pages_given_up plan LogRing 0 table) (log_pages table)) left
@@ -246,19 +221,19 @@ module _ (r : Shape) (plan : Plan) (body : List ℕ) (bare : Table) (shape : IsS
     gave-up : IsRingOf plan body bare kinds (voided r s) (effect plan LogRing VoidMark table)
     gave-up = record {
       log_is = void-now;
-      bodies = subst (λ (ps : List (List Entry)). HoldBodies plan (oldest (voided r s)) (voided r s).kept ps) (sym pages-left) left;
+      bodies = subst (λ (ps : List (List Entry)). HoldBodies (IsBody plan) (oldest (voided r s)) (voided r s).kept ps) (sym pages-left) left;
       logged_some = λ none. cond-none (has_rows (option_map (model.sealed (shape_of plan LogRing) 0) table.log)) table.logged none;
       rest = h.rest;
-      known = kept-known r s None shape h.known;
+      known = kept-known r s None h.known;
       come = erases-come plan body bare kinds (voided r s)
-          (small-by (voided r s) (kept-torn r s None shape h.known) (omega (arith, kept-next r s None shape h.known, h.come.0))) h.come.1;
+          (small-by (voided r s) (kept-torn r s None) (omega (arith, kept-next r s None, h.come.0))) h.come.1;
     }
 
   -- each operation keeps it
   pub step-along : (kind : Kind) (kinds : List Kind) (s : RingState) (table : Table) → IsRingOf plan body bare (kind ∷ kinds) s table → IsRingOf plan body bare kinds (change r body kind s) (effect plan LogRing kind table)
   step-along Body kinds s table h = record {
     log_is = ap (option_map model.begun) h.log_is;
-    bodies = subst (λ (ps : List (List Entry)). HoldBodies plan (oldest s) s.kept ps) (ap (λ (b : Bool). table.logged_before ++ cond b (table.logged ∷ []) []) (sym (rows-begun table.log))) h.bodies;
+    bodies = subst (λ (ps : List (List Entry)). HoldBodies (IsBody plan) (oldest s) s.kept ps) (ap (λ (b : Bool). table.logged_before ++ cond b (table.logged ∷ []) []) (sym (rows-begun table.log))) h.bodies;
     logged_some = λ none. h.logged_some (sym (rows-begun table.log) ∙ none);
     rest = h.rest;
     known = h.known;
@@ -268,76 +243,9 @@ module _ (r : Shape) (plan : Plan) (body : List ℕ) (bare : Table) (shape : IsS
   step-along VoidMark kinds s table h = gave-up s table kinds h
   step-along Erase kinds s table h = record {
     log_is = ap (option_map model.erased) h.log_is;
-    bodies = subst (λ (ps : List (List Entry)). HoldBodies plan (oldest s) s.kept ps) (ap (λ (b : Bool). table.logged_before ++ cond b (table.logged ∷ []) []) (sym (rows-erased table.log))) h.bodies;
+    bodies = subst (λ (ps : List (List Entry)). HoldBodies (IsBody plan) (oldest s) s.kept ps) (ap (λ (b : Bool). table.logged_before ++ cond b (table.logged ∷ []) []) (sym (rows-erased table.log))) h.bodies;
     logged_some = λ none. h.logged_some (sym (rows-erased table.log) ∙ none);
     rest = h.rest;
     known = h.known;
     come = erases-come plan body bare kinds (record s { dirty = false }) h.come.0 h.come.1;
   }
-
-  -- how the operations of a table ended, by the answer
-  abbrev pub TableAnswers : PartEnd Table → Result (Unit {0}) FlashFault → FlashState → Type 0
-  TableAnswers Whole result new = IsOk result × (new.is_on ≡ true)
-  TableAnswers (CutIn before) result new = IsErrOf result PowerLost × (new.is_on ≡ false)
-  TableAnswers (FailedIn before) result new = IsErrOf result Media × (new.is_on ≡ true)
-
-  -- operations of a table were done in order, until one failed, and the flash stands for the log that this leaves
-  pub record LogPerformed (operations : List (RingName × Kind)) (table : Table) (rose : Bool) (device : Device) (result : Result (Unit {0}) FlashFault) (new : FlashState) (left : RingState) : Type 0 where
-    pub now : PartProgress Table
-    pub did : TablePerforms plan rose operations device table now
-    pub answer : TableAnswers now.end result new
-    pub counts : SameDevice new now.device
-    pub kinds : List Kind
-    pub is : IsRingOf plan body bare kinds left now.state
-
-  pub performed-lifts : (rose : Bool) (kinds : List Kind) (device : Device) (s : RingState) (table : Table) (result : Result (Unit {0}) FlashFault) (new : FlashState) → IsRingOf plan body bare kinds s table →
-      (h : Performed r (change r body) rose kinds device s result new) → LogPerformed (map of_log kinds) table rose device result new h.now.state
-  performed-lifts rose kinds device s table result new is h =
-      let along = performs-along (IsRingOf plan body bare) (λ kind. kind) (change r body) (effect plan LogRing) step-along rose kinds device s table h.now is h.did in
-      let e = ends h.now.end along.other.end h.now.state along.other.state along.ends h.answer in
-      record {
-        now = along.other;
-        did = performs-map (λ (o : RingName × Kind). o.1) (effect_within plan) of_log rose kinds device table along.other along.performs;
-        answer = e.1;
-        counts = subst (λ (d : Device). SameDevice new d) (sym along.device_is) h.counts;
-        kinds = e.0.0;
-        is = e.0.1;
-      }
-    where
-      ends : (a : PartEnd RingState) (b : PartEnd Table) (x : RingState) (t : Table) → EndsAlong (IsRingOf plan body bare) a b x t → AnswersEnd a result new →
-          Somewhere (IsRingOf plan body bare) x t × TableAnswers b result new
-      ends Whole Whole x t e a = (([], e), a)
-      ends (CutIn s') (CutIn t') x t e a = (e.1, a)
-      ends (FailedIn s') (FailedIn t') x t e a = (e.1, a)
-      ends Whole (CutIn t') x t e a = absurd e
-      ends Whole (FailedIn t') x t e a = absurd e
-      ends (CutIn s') Whole x t e a = absurd e
-      ends (CutIn s') (FailedIn t') x t e a = absurd e
-      ends (FailedIn s') Whole x t e a = absurd e
-      ends (FailedIn s') (CutIn t') x t e a = absurd e
-
-  -- the answer to a failed operation
-  pub fault-ends : (e : PartEnd Table) (fault : FlashFault) (new : FlashState) → TableAnswers e (Err fault) new → FaultEnds e fault new
-  fault-ends Whole fault new a = absurd (not_ok a.0)
-    where
-      not_ok : IsOk {T = Unit {0}} {E = FlashFault} (Err fault) → ⊥
-      not_ok e = cc
-  fault-ends (CutIn before) fault new a = (is a.0, a.1)
-    where
-      is : ◌≡◌ {A = Result (Unit {0}) FlashFault} (Err fault) (Err PowerLost) → fault ≡ PowerLost
-      is e = cc
-  fault-ends (FailedIn before) fault new a = (is a.0, a.1)
-    where
-      is : ◌≡◌ {A = Result (Unit {0}) FlashFault} (Err fault) (Err Media) → fault ≡ Media
-      is e = cc
-
-  pub all-whole : (e : PartEnd Table) (u : Unit {0}) (new : FlashState) → TableAnswers e (Ok u) new → (e ≡ Whole) × (new.is_on ≡ true)
-  all-whole Whole u new a = (refl, a.1)
-  all-whole (CutIn before) u new a = absurd (not_err PowerLost a.0)
-    where
-      not_err : (fault : FlashFault) → ◌≡◌ {A = Result (Unit {0}) FlashFault} (Ok u) (Err fault) → ⊥
-      not_err fault e = cc
-  all-whole (FailedIn before) u new a = absurd (not_err Media a.0)
-    where
-      not_err : (fault : FlashFault) → ◌≡◌ {A = Result (Unit {0}) FlashFault} (Ok u) (Err fault) → ⊥
-      not_err fault e = cc

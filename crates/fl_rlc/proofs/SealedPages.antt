@@ -1,7 +1,7 @@
 -- What the seals of a flush leave of the pages of a flash.
 use Rattle.std.proofs.Common.{◌≡◌, ◌⊎◌, ℕ, ◌+◌, ◌*◌, ◌%◌, ◌<◌, ◌≤◌, Bool, true, false, cond, ◌==◌, ◌&&◌, nat_lt, Option, Some, None, option_map, inl, inr, [], ◌∷◌, ◌++◌, length, refl, sym, ◌∙◌, ap, subst, arith, IsSomeAnd}
 use Rattle.std.proofs.Math.Nat.{add-mul, mul-le-mul_right}
-use Rattle.std.proofs.lemmas.Bool.{cases_lt, false≢true}
+use Rattle.std.proofs.lemmas.Bool.{cases_lt}
 use Rattle.std.proofs.lemmas.Option.{same_Some}
 use Rattle.fl_flash.specs.Flash.{FlashState, page_at, pages, blank}
 use Rattle.fl_flash.specs.Places.{extent}
@@ -12,6 +12,8 @@ use Rattle.fl_model.specs.Layout.{is_blank}
 use Rattle.fl_model.specs.Record.{Plan, blocks_of, has_index, entries_per_page}
 use Rattle.fl_model.specs.Ring.{Ring, sealed, erased}
 use Rattle.fl_model.specs.Table.{Table, DataRing, IndexRing, VarRing, shape_of, table_seals, after_seals, fill, lose}
+use Rattle.fl_model.proofs.Sealed.{sealed-next}
+use Rattle.fl_model.proofs.SomeRing.{some-ring}
 use Rattle.fl_ring.proofs.Lengths.{page_length}
 use Rattle.fl_parts.specs.Bitmaps.{ArePlanned, Stand}
 use Rattle.fl_table.specs.Mounting.{OutsideStands}
@@ -21,7 +23,6 @@ use Rattle.fl_table.specs.declared.table.Table as code
 use Rattle.fl_table.proofs.Apart.{beside-stands}
 use Rattle.fl_parts.proofs.States.{blank-bytes}
 use Rattle.fl_rlc.specs.Left.{IsNextPage}
-use Rattle.fl_rlc.proofs.NextAfter.{sealed-next}
 use Rattle.fl_rlc.proofs.RingFilled.{ring-filled}
 
 -- a ring has at most one page more
@@ -86,16 +87,12 @@ module _ {K S : ℕ} (old_t t : code.Table K S) (f g : FlashState) (first : ℕ)
   in-index : (page : ℕ) → (first + plan.data_blocks) * plan.geometry.block ≤ page → page < (first + plan.data_blocks) * plan.geometry.block + plan.index_blocks * plan.geometry.block → IsLeft page
   in-index page low high = by-index t.bitmaps stands.planned.index stands.bitmaps
     where
-      ring-before : (o : Option Ring) → is_some_ring o ≡ true → (r : Ring) × (o ≡ Some r)
-      ring-before (Some r) e = (r, refl)
-      ring-before None e = absurd (false≢true e)
-
       by-index : (o : Option BitmapIndex) → ArePlanned o (first + plan.data_blocks) plan → Stand o g (first + plan.data_blocks) plan (after_seals plan (table_seals plan table) table) → IsLeft page
       by-index None p s = absurd (omega (arith, low, high, ap (λ (b : ℕ). b * plan.geometry.block) p.0))
       by-index (Some index) p s =
           let after = after_seals plan (table_seals plan table) table in
           let ring = s.in_ring in
-          let a = ring-before table.index (old_stands.facts.has_rings.0 ∙ (sym stands.facts.has_rings.0 ∙ ap is_some_ring ring.facts.ring_is)) in
+          let a = some-ring table.index (old_stands.facts.has_rings.0 ∙ (sym stands.facts.has_rings.0 ∙ ap is_some_ring ring.facts.ring_is)) in
           by-case a.0 a.1 (ring-filled (shape_of plan IndexRing) ((first + plan.data_blocks) * plan.geometry.block) (page_at f) (page_at g) a.0 ring.ring (HoldsEntries plan after ring.ring) ring.whole ring.clean ((flush-few plan table).index a.0 ring.ring a.1 ring.facts.ring_is) ring.pages
           (kept.index a.0 ring.ring a.1 ring.facts.ring_is) page low high)
         where

@@ -1,18 +1,18 @@
 -- The seal of a log's page, in the words of its table.
-use Rattle.std.proofs.Common.{◌≡◌, ℕ, ◌+◌, ◌-◌, ◌*◌, ◌%◌, ◌<◌, ◌≤◌, Bool, true, false, cond, Option, Some, unwrap_or, Result, Ok, Err, List, [], ◌∷◌, map, length, refl, sym, ◌∙◌, ap, subst, arith}
+use Rattle.std.proofs.Common.{◌≡◌, ℕ, ◌+◌, ◌-◌, ◌<◌, ◌≤◌, Bool, false, cond, Option, Some, unwrap_or, Result, Ok, Err, List, [], ◌∷◌, map, length, refl, sym, ◌∙◌, ap, subst, arith}
 use Rattle.std.specs.Prelude.{option_map, is_some}
-use Rattle.std.proofs.Math.Nat.{mod-lt, mul-le-mul_right, add-mul, div-le_self}
+use Rattle.std.proofs.Math.Nat.{div-le_self}
+use Rattle.std.proofs.lemmas.Option.{same_Some}
 use Rattle.fl_base.specs.declared.types.Geometry.{Geometry}
-use Rattle.fl_flash.specs.Flash.{FlashState, pages, page_at}
+use Rattle.fl_flash.specs.Flash.{FlashState, page_at}
 use Rattle.fl_flash.specs.Places.{extent}
 use Rattle.fl_flash.specs.declared.flash.FlashFault.{FlashFault}
-use Rattle.fl_flash.specs.declared.flash.FlashFault.TheVariants.{PowerLost, Media}
 use Rattle.fl_model.specs.Record.{Plan, row_layout, row_len, rows_per_page}
 use Rattle.fl_model.specs.Ring as model
 use Rattle.fl_model.specs.Row.{stored_row}
 use Rattle.fl_model.specs.Table.{Table, RingName, LogRing, has_rows, shape_of, after_seal, seal_buffer, is_dirty, log_pages, pending_entries}
-use Rattle.fl_model.specs.Work.{Kind, Body, Mark, Erase, PartEnd, Whole, CutIn, FailedIn, Device}
-use Rattle.fl_model.specs.Within.{seal_within, effect_within, TablePerforms, all_done}
+use Rattle.fl_model.specs.Work.{Kind, Mark, Erase, Device}
+use Rattle.fl_model.specs.Within.{seal_within, effect_within, TablePerforms}
 use Rattle.fl_model.specs.Bare.{bare_table}
 use Rattle.fl_model.proofs.Among.{seal-all_done}
 use Rattle.fl_model.proofs.Performs.{performs-whole}
@@ -23,31 +23,28 @@ use Rattle.fl_ring.specs.Operations.{change, seal_kinds}
 use Rattle.fl_ring.specs.Place as place_words
 use Rattle.fl_ring.specs.Place.{StandsFor}
 use Rattle.fl_ring.specs.Ring.{Shape, RingState, IsShape, OnRing, place, count, oldest, sealed}
-use Rattle.fl_ring.specs.Sealing.{IsReady, Performed, AnswersEnd}
+use Rattle.fl_ring.specs.Sealing.{IsReady, Performed}
 use Rattle.fl_ring.specs.declared.ring.Ring as memory
+use Rattle.fl_ring.proofs.Bodies.{kept-later}
 use Rattle.fl_ring.proofs.Counts.{counts_length}
-use Rattle.fl_ring.proofs.Lengths.{page_length}
+use Rattle.fl_ring.proofs.HeldPages.{IsStateOf, state-oldest}
+use Rattle.fl_ring.proofs.InTable.{of_ring, erases-where, seal-operations, performed-lifts, all-whole}
+use Rattle.fl_ring.proofs.Lengths.{ring_lengths}
+use Rattle.fl_ring.proofs.SealSteps.{seal_end}
+use Rattle.fl_parts.proofs.SealEnds.{fault-ends}
 use Rattle.fl_rlc.specs.Memory.{next_in, oldest_in, rows_in, page_in, log_shape, IsPlanned, IsSamePlan}
 use Rattle.fl_rlc.specs.Pages.{log_body, IsLogRing}
 use Rattle.fl_rlc.specs.Sealing as specs
 use Rattle.fl_rlc.specs.Sealing.{Seals, Breaks, SealEnds}
 use Rattle.fl_rlc.specs.declared.log.RecordLog.{RecordLog}
-use Rattle.fl_rlc.proofs.Bodies.{counted, rows_of, body-of, IsBody, kept-later, kept-next, kept-torn}
-use Rattle.fl_rlc.proofs.RingInTable.{of_log, AreErases, IsRingOf, come-small, performed-lifts, fault-ends, all-whole, step-along}
-use Rattle.fl_rlc.proofs.States.{state_of, IsStateOf, state-is, log-ring-of, state-oldest}
+use Rattle.fl_rlc.proofs.Bodies.{counted, rows_of, body-of, IsBody}
+use Rattle.fl_rlc.proofs.RingInTable.{IsRingOf, come-small, step-along}
+use Rattle.fl_rlc.proofs.States.{state_of, state-is, log-ring-of}
 
 -- the pages of the flash have their size
 pub pages-size : (log : RecordLog) (f : FlashState) → f.start + extent f.geometry f.blocks ≤ length f.media.content → f.geometry ≡ log.geometry → log.place.first_block + log.place.blocks ≤ f.blocks →
     (n : ℕ) → length (page_at f (place (log_shape log) n)) ≡ log.geometry.page
-pages-size log f reaches geometry within n =
-    let P = log.geometry.block in
-    let B = log.place.blocks in
-    let room : 0 < log.place.blocks * log.geometry.block = let k : 1 * log.geometry.block ≤ log.place.blocks * log.geometry.block = mul-le-mul_right log.geometry.block (omega (arith, log.some_blocks)) in omega (arith, k, log.served.block_least) in
-    let small : n % (log.place.blocks * log.geometry.block) < log.place.blocks * log.geometry.block = mod-lt n room in
-    let all : (log.place.first_block + log.place.blocks) * log.geometry.block ≤ f.blocks * log.geometry.block = mul-le-mul_right P within in
-    let split : (log.place.first_block + log.place.blocks) * log.geometry.block ≡ log.place.first_block * log.geometry.block + log.place.blocks * log.geometry.block = add-mul log.place.first_block B P in
-    let pages_is : pages f ≡ f.blocks * log.geometry.block = ap (λ g. f.blocks * g.block) geometry in
-    page_length f (place (log_shape log) n) reaches (omega (arith, small, all, split, pages_is)) ∙ ap (λ g. g.page) geometry
+pages-size log f reaches geometry within = ring_lengths f log.geometry log.place.first_block log.place.blocks reaches geometry within (omega (arith, log.some_blocks)) (omega (arith, log.served.block_least))
 
 pub shape-is : (log : RecordLog) → IsShape (log_shape log)
 shape-is log = record { blocks = log.some_blocks; per_block = log.served.block_least; size = log.served.page_least }
@@ -69,21 +66,6 @@ next-is log ring e = ap (λ (o : Option memory.Ring). unwrap_or (option_map (λ 
 pub oldest-is : (log : RecordLog) (ring : memory.Ring) → log.ring ≡ Some ring → oldest_in log ≡ place_words.oldest_of ring
 oldest-is log ring e = ap (λ (o : Option memory.Ring). unwrap_or (option_map (λ r. place_words.oldest_of r) o) 0) e
 
--- what all operations of a seal leave
-module _ (r : Shape) (s : RingState) (body : List ℕ) (shape : IsShape r) (known : count s ≤ s.next) where
-  pub record IsEnd (left : RingState) : Type 0 where
-    pub whole : left.torn ≡ false
-    pub clean : left.dirty ≡ false
-    pub next_is : left.next ≡ s.next + 1
-    pub oldest_is : oldest left ≡ oldest (sealed r s body)
-
-  pub seal-end : IsEnd (all_done (change r body) (seal_kinds r s body) s)
-  seal-end = by_dirt (sealed r s body).dirty refl
-    where
-      by_dirt : (b : Bool) → (sealed r s body).dirty ≡ b → IsEnd (all_done (change r body) (cond b (Erase ∷ []) []) (sealed r s body))
-      by_dirt true e = record { whole = kept-torn r s (Some body) shape known; clean = refl; next_is = kept-next r s (Some body) shape known; oldest_is = refl }
-      by_dirt false e = record { whole = kept-torn r s (Some body) shape known; clean = e; next_is = kept-next r s (Some body) shape known; oldest_is = refl }
-
 -- the body that was finished is that of the next page
 pub finished-is : (log : RecordLog) (f : FlashState) (first : ℕ) (plan : Plan) (table : Table) → specs.IsReady log f first plan table →
     IsBody plan (next_in log) (log_body plan (next_in log) (pending_entries table)) (pending_entries table)
@@ -102,7 +84,7 @@ module _ (log : RecordLog) (f g : FlashState) (first : ℕ) (plan : Plan) (table
   few : rows_per_page plan < 65536
   few = rows-few log first plan h.stands.ring.planned
 
-  is : IsStateOf (log_shape log) plan (page_at f) sizes (shape-is log) (shape-here log first plan h.stands.ring.planned) (rows-few log first plan h.stands.ring.planned) h.stands.ring.ring (log_pages table) (state_of plan h.stands.ring.ring (log_pages table))
+  is : IsStateOf (IsBody plan) rows_of (log_shape log) (page_at f) h.stands.ring.ring (log_pages table) (state_of plan h.stands.ring.ring (log_pages table))
   is = state-is (log_shape log) plan (page_at f) sizes (shape-is log) (shape-here log first plan h.stands.ring.planned) (rows-few log first plan h.stands.ring.planned) h.stands.ring.ring (log_pages table) h.stands.ring.pages
 
   known : count (state_of plan h.stands.ring.ring (log_pages table)) ≤ h.stands.ring.ring.next
@@ -113,7 +95,7 @@ module _ (log : RecordLog) (f g : FlashState) (first : ℕ) (plan : Plan) (table
   ready ring e = record {
     stands = record {
       next = sym (next-is log ring e) ∙ h.stands.ring.next;
-      oldest = sym (oldest-is log ring e) ∙ (h.stands.ring.oldest_is ∙ sym (state-oldest plan h.stands.ring.ring (log_pages table)));
+      oldest = sym (oldest-is log ring e) ∙ (h.stands.ring.oldest_is ∙ sym (state-oldest (log_body plan) h.stands.ring.ring (log_pages table)));
     };
     on = subst (λ (x : Shape). OnRing x (page_at f) (state_of plan h.stands.ring.ring (log_pages table))) (sym (log.lies ring e)) is.on;
     whole = h.stands.ring.whole;
@@ -135,42 +117,30 @@ module _ (log : RecordLog) (f g : FlashState) (first : ℕ) (plan : Plan) (table
     known = known;
     come = (
       record { body_is = body-next; as_many = h.as_many; small = omega (arith, left, h.stands.ring.next) },
-      erases (sealed (log_shape log) (state_of plan h.stands.ring.ring (log_pages table)) body).dirty,
+      erases-where (sealed (log_shape log) (state_of plan h.stands.ring.ring (log_pages table)) body).dirty,
     );
   }
-    where
-      erases : (b : Bool) → AreErases (cond b (Erase ∷ []) [])
-      erases true = tt
-      erases false = tt
 
-  kinds-are : map of_log (seal_kinds (log_shape log) (state_of plan h.stands.ring.ring (log_pages table)) body) ≡ seal_within plan LogRing table
-  kinds-are = by_dirt (sealed r s body).dirty ∙ ap (λ (d : Bool). (LogRing, Body) ∷ (LogRing, Mark) ∷ (cond d ((LogRing, Erase) ∷ []) [])) dirt
+  kinds-are : map (of_ring LogRing) (seal_kinds (log_shape log) (state_of plan h.stands.ring.ring (log_pages table)) body) ≡ seal_within plan LogRing table
+  kinds-are = seal-operations LogRing plan table r s body dirt
     where
-      erases : (b : Bool) → AreErases (cond b (Erase ∷ []) [])
-      erases true = tt
-      erases false = tt
-
       after : IsRingOf plan body (bare_table table) (cond (sealed (log_shape log) (state_of plan h.stands.ring.ring (log_pages table)) body).dirty (Erase ∷ []) []) (sealed (log_shape log) (state_of plan h.stands.ring.ring (log_pages table)) body) (seal_buffer plan LogRing table)
       after = step-along (log_shape log) plan body (bare_table table) (shape-is log) (shape-here log first plan h.stands.ring.planned) Mark (cond (sealed r s body).dirty (Erase ∷ []) []) s table
-          (record { log_is = begins.log_is; bodies = begins.bodies; logged_some = begins.logged_some; rest = begins.rest; known = begins.known; come = (begins.come.0, erases (sealed r s body).dirty) })
+          (record { log_is = begins.log_is; bodies = begins.bodies; logged_some = begins.logged_some; rest = begins.rest; known = begins.known; come = (begins.come.0, erases-where (sealed r s body).dirty) })
 
       dirt : (sealed (log_shape log) (state_of plan h.stands.ring.ring (log_pages table)) body).dirty ≡ is_dirty LogRing (seal_buffer plan LogRing table)
       dirt = ap (λ (o : Option model.Ring). unwrap_or (option_map (λ (x : model.Ring). x.dirty) o) false) (sym after.log_is)
-
-      by_dirt : (b : Bool) → map of_log (Body ∷ Mark ∷ (cond b (Erase ∷ []) [])) ≡ (LogRing, Body) ∷ (LogRing, Mark) ∷ (cond b ((LogRing, Erase) ∷ []) [])
-      by_dirt true = refl
-      by_dirt false = refl
 
   -- an operation of it failed
   pub seal-breaks : (rose : Bool) (device : Device) (fault : FlashFault) →
       Performed (log_shape log) (change (log_shape log) body) rose (seal_kinds (log_shape log) (state_of plan h.stands.ring.ring (log_pages table)) body) device (state_of plan h.stands.ring.ring (log_pages table)) (Err fault) g →
       Breaks plan table rose device fault log g
   seal-breaks rose device fault p =
-      let l = performed-lifts (log_shape log) plan body (bare_table table) (shape-is log) (shape-here log first plan h.stands.ring.planned) rose (seal_kinds r s body) device s table (Err fault) g begins p in
+      let l = performed-lifts (IsRingOf plan body (bare_table table)) r plan LogRing body (step-along r plan body (bare_table table) (shape-is log) (shape-here log first plan h.stands.ring.planned)) rose (seal_kinds r s body) device s table (Err fault) g begins p in
       record {
         now = l.now;
         did = subst (λ (ops : List (RingName × Kind)). TablePerforms plan rose ops device table l.now) kinds-are l.did;
-        answer = fault-ends (log_shape log) plan body (bare_table table) (shape-is log) (shape-here log first plan h.stands.ring.planned) l.now.end fault g l.answer;
+        answer = fault-ends l.now.end fault g l.answer;
         counts = l.counts;
         ring = counted p.now.state;
         ring_is = l.is.log_is;
@@ -187,14 +157,14 @@ module _ (log : RecordLog) (f g : FlashState) (first : ℕ) (plan : Plan) (table
       ((n : ℕ) → oldest (sealed (log_shape log) (state_of plan h.stands.ring.ring (log_pages table)) body) ≤ n → n < h.stands.ring.ring.next → page_in log g n ≡ page_in log f n) →
       Seals first plan table rose device log f w g
   seal-finishes rose device u w ring p stands ring_is same page_is gathers stays =
-      let l = performed-lifts (log_shape log) plan body (bare_table table) (shape-is log) (shape-here log first plan h.stands.ring.planned) rose (seal_kinds r s body) device s table (Ok u) g begins p in
-      let all = all-whole (log_shape log) plan body (bare_table table) (shape-is log) (shape-here log first plan h.stands.ring.planned) l.now.end u g l.answer in
+      let l = performed-lifts (IsRingOf plan body (bare_table table)) r plan LogRing body (step-along r plan body (bare_table table) (shape-is log) (shape-here log first plan h.stands.ring.planned)) rose (seal_kinds r s body) device s table (Ok u) g begins p in
+      let all = all-whole l.now.end u g l.answer in
       let did : TablePerforms plan rose (seal_within plan LogRing table) device table l.now = subst (λ (ops : List (RingName × Kind)). TablePerforms plan rose ops device table l.now) kinds-are l.did in
       let after : l.now.state ≡ after_seal plan LogRing table = (performs-whole (λ operation. operation.1) (effect_within plan) rose (seal_within plan LogRing table) device table l.now did all.0).0 ∙ seal-all_done plan LogRing table in
-      let ends : IsEnd (log_shape log) s body (shape-is log) known p.now.state = subst (IsEnd (log_shape log) s body (shape-is log) known) (sym (ring_whole p)) (seal-end (log_shape log) s body (shape-is log) known) in
+      let ends = seal_end (log_shape log) s body rose device u g p in
       let oldest_now : model.oldest (counted p.now.state) ≡ oldest (sealed (log_shape log) (state_of plan h.stands.ring.ring (log_pages table)) body) =
       ap (λ n. p.now.state.next - n) (counts_length rows_of p.now.state) ∙ ends.oldest_is in
-      let later = kept-later (log_shape log) s (Some body) (shape-is log) known in
+      let later = kept-later (log_shape log) s (Some body) known in
       record {
         now = l.now;
         did = did;
@@ -220,36 +190,15 @@ module _ (log : RecordLog) (f g : FlashState) (first : ℕ) (plan : Plan) (table
           rows = gathers;
         };
         stand = λ before e.
-            let same_ring = ring_same before e in
+            let same_ring = same_Some before h.stands.ring.ring (sym e ∙ h.stands.ring.ring_is) in
             subst (λ (pg : ℕ → List ℕ). PagesStand before (page_in log f) (counted p.now.state) pg) (sym page_is)
             (subst (λ (x : model.Ring). PagesStand x (page_in log f) (counted p.now.state) (page_in log g)) (sym same_ring)
             (record {
-              later = omega (arith, oldest_now, later, state-oldest plan h.stands.ring.ring (log_pages table));
+              later = omega (arith, oldest_now, later, state-oldest (log_body plan) h.stands.ring.ring (log_pages table));
               further = omega (arith, ends.next_is);
               bytes = λ n low high. stays n (omega (arith, low, oldest_now)) high;
             }));
       }
-    where
-      ring_same : (before : model.Ring) → table.log ≡ Some before → before ≡ h.stands.ring.ring
-      ring_same before e = one (sym e ∙ h.stands.ring.ring_is)
-        where
-          one : Some before ≡ Some h.stands.ring.ring → before ≡ h.stands.ring.ring
-          one k = cc
-
-      answers : (e : PartEnd RingState) → AnswersEnd e (Ok u) g → e ≡ Whole
-      answers Whole a = refl
-      answers (CutIn b) a = absurd (not_err PowerLost a.0)
-        where
-          not_err : (fault : FlashFault) → ◌≡◌ {A = Result (Unit {0}) FlashFault} (Ok u) (Err fault) → ⊥
-          not_err fault e = cc
-      answers (FailedIn b) a = absurd (not_err Media a.0)
-        where
-          not_err : (fault : FlashFault) → ◌≡◌ {A = Result (Unit {0}) FlashFault} (Ok u) (Err fault) → ⊥
-          not_err fault e = cc
-
-      ring_whole : (x : Performed (log_shape log) (change (log_shape log) body) rose (seal_kinds (log_shape log) (state_of plan h.stands.ring.ring (log_pages table)) body) device (state_of plan h.stands.ring.ring (log_pages table)) (Ok u) g) →
-          x.now.state ≡ all_done (change (log_shape log) body) (seal_kinds (log_shape log) (state_of plan h.stands.ring.ring (log_pages table)) body) (state_of plan h.stands.ring.ring (log_pages table))
-      ring_whole x = (performs-whole (λ kind. kind) (change (log_shape log) body) rose (seal_kinds r s body) device s x.now x.did (answers x.now.end x.answer)).0
 
 pub seal-err : (first : ℕ) (plan : Plan) (table : Table) (rose : Bool) (device : Device) (old : RecordLog) (old_f : FlashState) (log : RecordLog) (new : FlashState) (result : Result (Unit {0}) FlashFault) (fault : FlashFault) → result ≡ Err fault →
     Breaks plan table rose device fault old new → SealEnds first plan table rose device old old_f result log new

@@ -8,7 +8,7 @@ use Rattle.fl_model.specs.Within.{effect_within, TablePerforms}
 use Rattle.fl_model.specs.Work.{Kind, Ending, AsBefore, AsAfter, Either, Leaves, ending_of, Device, cut_now, counted, PartEnd, Whole, CutIn, FailedIn, PartProgress, PartFirst}
 use Rattle.fl_machine.proofs.RecordsChange.{Any}
 use Rattle.fl_machine.proofs.Logs.{core, IsFine, lost}
-use Rattle.fl_machine.proofs.LogTables.{Goes, Stops}
+use Rattle.fl_machine.proofs.LogOperations.{Goes, Stops}
 
 -- the core of what is left
 stop-left : (ending : Ending) (before after left : Table) → Leaves ending before after left → IsFine (lost (core before)) → IsFine (lost (core after)) → IsFine (lost (core left))

@@ -8,13 +8,13 @@ use Rattle.std.proofs.lemmas.Bool.{true≢false}
 use Rattle.fl_base.specs.declared.types.Geometry.{Geometry}
 use Rattle.fl_flash.specs.Flash.{FlashState}
 use Rattle.fl_model.specs.Bare.{bare}
-use Rattle.fl_model.specs.Facts.{FitsPlan, BlobFits, is_some_ring}
+use Rattle.fl_model.specs.Facts.{FitsPlan, BlobFits}
 use Rattle.fl_model.specs.Record.{Record, Plan, row_layout, layout_len, rows_per_page}
-use Rattle.fl_model.specs.Ring.{Ring}
 use Rattle.fl_model.specs.Row.{stored_row}
 use Rattle.fl_model.specs.Table as model
 use Rattle.fl_model.specs.Table.{Entry, pending_entries}
 use Rattle.fl_model.specs.Work.{Device}
+use Rattle.fl_model.proofs.SomeRing.{no-ring}
 use Rattle.fl_table.specs.BlobAt.{has_blobs}
 use Rattle.fl_parts.specs.Blobs as variable
 use Rattle.fl_parts.specs.Blobs.{pages_for}
@@ -44,10 +44,6 @@ use Rattle.fl_rlc.proofs.PutRows.{pending-many}
 pub plain-of : {KNOTS SLOTS : ℕ} (t : Table KNOTS SLOTS) (f : FlashState) (first : ℕ) (plan : Plan) (b : model.Table) → has_blobs t ≡ false → Stands t f first plan b → IsPlain plan b
 plain-of t f first plan b none s = by-blobs t.blobs none s.planned.var s.blobs
   where
-    no-ring : (o : Option Ring) → is_some_ring o ≡ false → o ≡ None
-    no-ring None e = refl
-    no-ring (Some ring) e = cc
-
     by-blobs : (o : Option VarData) → is_some o ≡ false → variable.ArePlanned o (first + plan.data_blocks + plan.index_blocks) plan → variable.Stand o f (first + plan.data_blocks + plan.index_blocks) plan b → IsPlain plan b
     by-blobs None e p empty =
         let no_var = planned-none (first + plan.data_blocks + plan.index_blocks) plan p in

@@ -1,11 +1,9 @@
 -- What a put changes of a flash: the calls of the table, and then those of its log.
-use Rattle.std.proofs.Common.{◌≡◌, ◌⊎◌, ℕ, ◌+◌, ◌*◌, ◌≤◌, Bool, true, cond, is_some, Option, Some, None, List, IsTrue, inl, inr, refl, sym, ◌∙◌, ap, subst, arith}
+use Rattle.std.proofs.Common.{◌≡◌, ◌⊎◌, ℕ, ◌+◌, ◌*◌, ◌≤◌, Bool, true, cond, is_some, Option, List, IsTrue, inl, inr, refl, sym, ◌∙◌, ap, subst, arith}
 use Rattle.fl_flash.specs.Flash.{FlashState, page_at}
 use Rattle.fl_frame.specs.Reads.{OnlyReads}
-use Rattle.fl_index.specs.declared.index.BitmapIndex.{BitmapIndex}
 use Rattle.fl_ring.specs.Written.{Writes}
 use Rattle.fl_ring.proofs.Written.{few-writes, writes-then, writes-wider}
-use Rattle.fl_parts.specs.Bitmaps as bitmaps
 use Rattle.fl_parts.specs.Blobs.{most_pages, MayFill}
 use Rattle.fl_table.specs.Memory as table
 use Rattle.fl_table.specs.Mounting as mounting
@@ -15,6 +13,7 @@ use Rattle.fl_table.specs.Paged as paged
 use Rattle.fl_table.specs.Paged.{next_page}
 use Rattle.fl_table.specs.declared.table.Table.{Table}
 use Rattle.fl_parts.proofs.BlobsOfTable.{same-some}
+use Rattle.fl_parts.proofs.IndexOfTable.{same-index}
 use Rattle.fl_table.proofs.Paged.{rows-ahead-later}
 use Rattle.fl_rlc.specs.Paged.{HasMadePage}
 use Rattle.fl_rlc.specs.Rows.{StandOutside}
@@ -65,12 +64,6 @@ module _ {KNOTS SLOTS : ℕ} (t : LoggedTable KNOTS SLOTS) (blob : Option (List 
   }
 
 -- ---- what a mount repairs
-
-same-index : (a b : Option BitmapIndex) → bitmaps.AreSamePlan a b → is_some b ≡ is_some a
-same-index None None h = refl
-same-index None (Some y) h = absurd h
-same-index (Some x) None h = absurd h
-same-index (Some x) (Some y) h = refl
 
 same-rings : {KNOTS SLOTS : ℕ} (t u : Table KNOTS SLOTS) → table.IsSamePlan t u → mounting.rings_in u ≡ mounting.rings_in t
 same-rings t u plan =

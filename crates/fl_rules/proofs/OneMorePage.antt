@@ -55,12 +55,6 @@ header_long bytes held is room least = let same = ap length is in omega (arith, 
 pub one_of : (n : ℕ) → 1 ≤ 1 + n
 one_of n = omega arith
 
-pub more_of : (n m : ℕ) → n ≤ n + m
-more_of n m = omega arith
-
-pub at_most : (n : ℕ) → n ≤ n
-at_most n = omega arith
-
 pub behind : (n : ℕ) → n < n + 1
 behind n = omega arith
 
@@ -80,13 +74,6 @@ some_more i = omega arith
 
 pub more_few : {i kept room : ℕ} → i < kept → kept < room → i + 1 ≤ room
 more_few lt few = omega (arith, lt, few)
-
-pub under : {n m : ℕ} → n < m → n ≤ m
-under lt = omega (arith, lt)
-
--- the loop ended
-pub all_below : {i kept : ℕ} → i ≤ kept → kept ≤ i → i ≡ kept
-all_below le ge = omega (arith, le, ge)
 
 -- bounds of numbers that are none
 pub none_least : {n m : ℕ} → n ≡ 0 → n ≤ m

@@ -1,8 +1,8 @@
 -- The rows of a page, one after another.
-use Rattle.std.proofs.Common.{◌≡◌, ◌↔◌, ℕ, zero, suc, ◌+◌, ◌≤◌, Bool, true, false, ◌&&◌, Option, Some, unwrap_or, List, [], ◌∷◌, length, take, drop, slice_get, refl, sym, subst, ap, ◌∙◌, arith, pos}
+use Rattle.std.proofs.Common.{◌≡◌, ◌↔◌, ℕ, zero, suc, ◌+◌, ◌≤◌, Bool, true, false, ◌&&◌, Option, Some, unwrap_or, List, [], ◌∷◌, length, take, drop, slice_get, sym, subst, ap, ◌∙◌, arith, pos}
 use Rattle.std.specs.List.{fold}
 use Rattle.std.proofs.lemmas.Bool.{ltb-true}
-use Rattle.std.proofs.lemmas.List.{take_all}
+use Rattle.std.proofs.lemmas.List.{take_all, drop_all}
 use Rattle.std.proofs.lemmas.Option.{none-some, same_Some}
 use Rattle.fl_bitmap.specs.Bucket.{with_value, bitmap_in}
 use Rattle.fl_bitmap.specs.declared.buckets.Buckets.{Buckets}
@@ -11,12 +11,6 @@ use Rattle.fl_model.specs.Row.{Row}
 use Rattle.fl_page.specs.Steps.{Ascends}
 use Rattle.fl_page.proofs.RowsFrom.{drop-row}
 use Rattle.fl_rules.specs.DataPage.{is_plain, are_plain}
-
-drop-end : (rows : List Row) (i : ℕ) → length rows ≤ i → drop i rows ≡ []
-drop-end [] zero h = refl
-drop-end [] (suc i) h = refl
-drop-end (row ∷ rows) zero h = absurd (omega arith)
-drop-end (row ∷ rows) (suc i) h = drop-end rows i (omega arith)
 
 -- ---- keys
 
@@ -38,7 +32,7 @@ ascends-bad first before rows i row e le same all =
     omega (arith, le, above)
 
 pub ascends-end : (first last : Option ℕ) (rows : List Row) (i : ℕ) → length rows ≤ i → (Ascends first rows ↔ Ascends last (drop i rows)) → Ascends first rows
-ascends-end first last rows i le same = same.1 (subst (Ascends last) (sym (drop-end rows i le)) tt)
+ascends-end first last rows i le same = same.1 (subst (Ascends last) (sym (drop_all i rows le)) tt)
 
 -- ---- references
 
@@ -51,7 +45,7 @@ pub plain-bad : (rows : List Row) (i : ℕ) (row : Row) → slice_get rows i ≡
 plain-bad rows i row e not_plain same = same ∙ ap are_plain (drop-row rows i row e) ∙ ap (λ (b : Bool). b && are_plain (drop (i + 1) rows)) not_plain
 
 pub plain-end : (rows : List Row) (i : ℕ) → length rows ≤ i → are_plain rows ≡ are_plain (drop i rows) → are_plain rows ≡ true
-plain-end rows i le same = same ∙ ap are_plain (drop-end rows i le)
+plain-end rows i le same = same ∙ ap are_plain (drop_all i rows le)
 
 -- ---- the bitmap
 

@@ -9,8 +9,9 @@ use Rattle.std.proofs.lemmas.List.{drop-drop, length-take-le, take-append-drop, 
 use Rattle.fl_model.proofs.Lists.{take_none}
 use Rattle.fl_base.specs.declared.types.BlobRef.{BlobRef}
 use Rattle.fl_base.proofs.OneByte.{all_same}
-use Rattle.fl_model.specs.Record.{Column, columns_len, layout_len, fits, first_misfit}
+use Rattle.fl_model.specs.Record.{columns_len, layout_len, fits, first_misfit}
 use Rattle.fl_model.specs.Row.{le, value_bytes, values_bytes, reference_bytes, bytes_of_row, FitsReference, FitsBytes, IsStorable, number_of, signed_number, value_in, values_in, reference_in, row_in}
+use Rattle.fl_model.proofs.RowValues.{length-values_in}
 use Rattle.fl_page.specs.Page.{rows_from}
 use Rattle.fl_schema.specs.Types.{column_of}
 use Rattle.fl_schema.specs.Form.{key_width, layout_with}
@@ -78,10 +79,6 @@ values_fit n (of ∷ types) bytes each room =
     let more : columns_len (map column_of (of ∷ types)) ≡ w + columns_len (map column_of types) = columns_len-cons (column_of of) (map column_of types) in
     let first = value_fits (take w bytes) (each-taken w bytes each) of (length-take-le w bytes (omega (arith, room, more))) in
     rw first (values_fit (n + 1) types (drop w bytes) (each-dropped w bytes each) (omega (arith, room, more, length-drop w bytes)))
-
-length-values_in : (columns : List Column) (bytes : List ℕ) → length (values_in columns bytes) ≡ length columns
-length-values_in [] bytes = refl
-length-values_in (column ∷ columns) bytes = ap suc (length-values_in columns (drop column.width bytes))
 
 -- ---- references
 

@@ -2,7 +2,6 @@ pub mod MediaOnlyRead
 pub mod Lines
 pub mod PageTexts
 pub mod Pieces
-pub mod SourceToEnd
 pub mod SalvageEnds
 pub mod CountedPages
 pub mod GivenConfig

@@ -1,24 +1,12 @@
 -- Texts of one item after another.
-use Rattle.std.proofs.Common.{◌≡◌, ℕ, ℤ, zero, suc, ◌+◌, ◌≤◌, Option, Some, None, Result, Ok, Err, List, [], ◌∷◌, ◌++◌, length, drop, refl, sym, ◌∙◌, ap, append-nil, append_assoc, arith}
+use Rattle.std.proofs.Common.{◌≡◌, ℕ, ℤ, zero, suc, ◌+◌, ◌≤◌, Option, Some, List, [], ◌∷◌, ◌++◌, length, drop, refl, sym, ◌∙◌, ap, subst, arith}
 use Rattle.std.specs.List.{flat_map, slice_get}
 use Rattle.std.proofs.lemmas.Option.{none-some}
 use Rattle.fl_base.specs.Causes.{Appends, AppendsFront}
 use Rattle.fl_csv.specs.Text.{Blob, entry_text}
 use Rattle.fl_model.specs.Row.{Row}
-use Rattle.fl_script.specs.Written.{Written}
-use Rattle.fl_script.proofs.SinkPieces.{Sent, sent-piece, sent-failed, appends-append}
+use Rattle.fl_script.proofs.SinkPieces.{Sent, sent-piece, sent-failed, sent-all}
 use Rattle.fl_salvage.specs.Text.{Form, blob_told, row_text}
-
-pub appends-none : (o : Option (List ℕ)) → Appends o o []
-appends-none None = tt
-appends-none (Some bytes) = ap (λ (l : List ℕ). Some l) (sym (append-nil bytes))
-
--- nothing of a text was written
-pub front-none : (o : Option (List ℕ)) (text : List ℕ) → AppendsFront o o text
-front-none o text = ([], (text, refl), appends-none o)
-
-pub sent-none : (o : Option (List ℕ)) (text : List ℕ) → Sent o o text text
-sent-none o text = record { front = []; parts = refl; appended = appends-none o }
 
 -- the text of the items from a place on is that of the one there, and that of the others
 pub flat-next : {X : Type 0} (f : X → List ℕ) (xs : List X) (i : ℕ) (x : X) → slice_get xs i ≡ Some x → f x ++ flat_map f (drop (i + 1) xs) ≡ flat_map f (drop i xs)
@@ -29,20 +17,6 @@ flat-next f (y ∷ ys) zero x is =
 flat-next f (y ∷ ys) (suc i) x is =
     let e : suc i + 1 ≡ suc (i + 1) = omega arith in
     rw e (flat-next f ys i x is)
-
--- the whole of a front was written, and then a front of the rest
-pub front-behind : (a b c : Option (List ℕ)) (before text : List ℕ) → Appends a b before → AppendsFront b c text → AppendsFront a c (before ++ text)
-front-behind a b c before text wrote front =
-    sent-failed a b c (before ++ text) text [] text (record { front = before; parts = refl; appended = wrote }) front (append-nil text)
-
--- a front of a front is one of all
-pub front-more : (a b : Option (List ℕ)) (text others : List ℕ) → AppendsFront a b text → AppendsFront a b (text ++ others)
-front-more a b text others front = (front.0, (front.1.0 ++ others, sym (append_assoc front.0 front.1.0 others) ∙ ap (λ (l : List ℕ). l ++ others) front.1.1), front.2)
-
--- a text behind one that was written
-pub written-behind : {E : Type 0} (a b c : Option (List ℕ)) (before text : List ℕ) (result : Result (Unit {0}) E) → Appends a b before → Written b c result text → Written a c result (before ++ text)
-written-behind a b c before text (Ok done) wrote writes = appends-append a b c before text wrote writes
-written-behind a b c before text (Err fault) wrote writes = front-behind a b c before text wrote writes
 
 -- the lines of items: those before a place were written, and a front of the next; that one too; and all of them
 pub item-failed : {X : Type 0} (f : X → List ℕ) (xs : List X) (i : ℕ) (x : X) (a b c : Option (List ℕ)) → slice_get xs i ≡ Some x → Sent a b (flat_map f xs) (flat_map f (drop i xs)) → AppendsFront b c (f x) → AppendsFront a c (flat_map f xs)
@@ -58,9 +32,7 @@ flat-end f (x ∷ xs) zero le = absurd (let no : suc (length xs) ≤ 0 = le in o
 flat-end f (x ∷ xs) (suc i) le = flat-end f xs i (omega (arith, le))
 
 pub all-sent : {X : Type 0} (f : X → List ℕ) (xs : List X) (i : ℕ) (a b : Option (List ℕ)) → length xs ≤ i → Sent a b (flat_map f xs) (flat_map f (drop i xs)) → Appends a b (flat_map f xs)
-all-sent f xs i a b le sent =
-    let e : sent.front ≡ flat_map f xs = sym (append-nil sent.front) ∙ ap (λ (l : List ℕ). sent.front ++ l) (sym (flat-end f xs i le)) ∙ sent.parts in
-    rw e at sent.appended
+all-sent f xs i a b le sent = sent-all a b (flat_map f xs) (subst (λ (l : List ℕ). Sent a b (flat_map f xs) l) (flat-end f xs i le) sent)
 
 -- the line of a row
 pub line-is : (form : Form) (bytes : List ℕ) (row : Row) (key : ℕ) (values : List ℤ) (blob : Blob) → key ≡ row.key → values ≡ row.values → blob ≡ blob_told form bytes row.blob

@@ -1,7 +1,8 @@
 -- Media that are only looked at, and the causes of faults.
-use Rattle.std.proofs.Common.{◌≡◌, ℕ, ◌≤◌, IsTrue, Result, Err, refl, ◌∙◌, subst, sym, arith}
+use Rattle.std.proofs.Common.{◌≡◌, ℕ, ◌≤◌, IsTrue, Result, Err, refl, subst, sym}
 use Rattle.fl_base.specs.Causes.{Rose}
 use Rattle.fl_base.specs.declared.stream.SinkFailed.{SinkFailed}
+use Rattle.fl_base.proofs.Risen.{rose-back}
 use Rattle.fl_csv.specs.declared.record.CsvFault.{CsvFault}
 use Rattle.fl_csv.specs.declared.record.CsvFault.TheVariants as line
 use Rattle.fl_flash.specs.Media.{MediaState}
@@ -10,27 +11,17 @@ use Rattle.fl_salvage.specs.Faults.{IsCaused, IsUnread, of_line}
 use Rattle.fl_salvage.specs.declared.fault.SalvageFault.{SalvageFault}
 use Rattle.fl_salvage.specs.declared.fault.SalvageFault.TheVariants.{Media, Sink, NoMemory}
 
-pub looks-same : (a : MediaState) → OnlyLooksAt a a
-looks-same a = record { tells = refl; content = refl; later = omega arith }
-
-pub looks-then : (a b c : MediaState) → OnlyLooksAt a b → OnlyLooksAt b c → OnlyLooksAt a c
-looks-then a b c one two = record { tells = two.tells ∙ one.tells; content = two.content ∙ one.content; later = omega (arith, one.later, two.later) }
-
 pub tells-on : (a b : MediaState) → OnlyLooksAt a b → IsTrue a.tells → IsTrue b.tells
 tells-on a b looks tells = subst IsTrue (sym looks.tells) tells
 
--- a count that rose from a later moment on rose from an earlier one on, and stays risen
-pub rose-before : (a b c : ℕ) → a ≤ b → Rose b c → Rose a c
-rose-before a b c le rose = omega (arith, le, rose)
-
 pub unread-later : (a b c : MediaState) (fault : SalvageFault) → OnlyLooksAt a b → IsUnread b c fault → IsUnread a c fault
-unread-later a b c Media looks rose = rose-before a.faults b.faults c.faults looks.later rose
+unread-later a b c Media looks rose = rose-back a.faults b.faults c.faults looks.later rose
 unread-later a b c Sink looks none = none
 unread-later a b c NoMemory looks t = tt
 
 pub caused-later : (a b c : MediaState) (k l m : ℕ) (fault : SalvageFault) → OnlyLooksAt a b → k ≤ l → IsCaused b c l m fault → IsCaused a c k m fault
-caused-later a b c k l m Media looks le rose = rose-before a.faults b.faults c.faults looks.later rose
-caused-later a b c k l m Sink looks le rose = rose-before k l m le rose
+caused-later a b c k l m Media looks le rose = rose-back a.faults b.faults c.faults looks.later rose
+caused-later a b c k l m Sink looks le rose = rose-back k l m le rose
 caused-later a b c k l m NoMemory looks le t = tt
 
 pub unread-caused : (a b : MediaState) (k l : ℕ) (fault : SalvageFault) → IsUnread a b fault → IsCaused a b k l fault

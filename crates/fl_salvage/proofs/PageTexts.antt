@@ -4,6 +4,7 @@ use Rattle.std.specs.Prelude.{◌/◌, ◌==◌, if◌then◌else◌}
 use Rattle.std.specs.List.{flat_map}
 use Rattle.std.proofs.lemmas.Bool.{and_from, and_parts, cases_Bool, eqb-true, ltb-true, leb-true, eq-eqb, lt-ltb, le-ltb, le-leb}
 use Rattle.fl_base.specs.Causes.{Appends}
+use Rattle.fl_base.proofs.Appended.{appends-none}
 use Rattle.fl_model.specs.Record.{layout_len}
 use Rattle.fl_model.specs.Row.{Row}
 use Rattle.fl_page.specs.Header.{page_number, page_count}
@@ -11,7 +12,6 @@ use Rattle.fl_page.specs.Page.{IsGoodPage, rows_in}
 use Rattle.fl_script.specs.Written.{Written}
 use Rattle.fl_salvage.specs.Pages.{has_rows, numbered}
 use Rattle.fl_salvage.specs.Text.{Form, page_text, row_text, rows_of}
-use Rattle.fl_salvage.proofs.Lines.{appends-none}
 
 module _ (form : Form) (bytes : List ℕ) (number : ℕ) where
   abbrev page : List ℕ

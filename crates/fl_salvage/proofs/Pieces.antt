@@ -1,14 +1,10 @@
 -- Bytes of a blob that are joined piece by piece.
-use Rattle.std.proofs.Common.{◌≡◌, ℕ, suc, ◌+◌, ◌-◌, ◌<◌, ◌≤◌, true, false, Option, Some, None, List, [], ◌++◌, length, drop, refl, ap, sym, ◌∙◌, append_assoc, arith}
+use Rattle.std.proofs.Common.{◌≡◌, ℕ, suc, ◌+◌, ◌-◌, ◌<◌, ◌≤◌, true, false, Option, Some, None, List, ◌++◌, length, drop, refl, ap, sym, ◌∙◌, append_assoc, arith}
 use Rattle.std.specs.Prelude.{nat_le, ◌==◌, slice_range}
 use Rattle.std.proofs.lemmas.Bool.{eq-eqb, le-leb, lt-leb, ne_eqb}
 use Rattle.fl_flash.proofs.Pages.{length-slice}
 use Rattle.fl_salvage.specs.Blobs.{blob_from, content_at, content_room, joined, piece_in}
 use Rattle.fl_salvage.specs.declared.ring.RingPages.{RingPages}
-
-pub joined-none : (found : Option (List ℕ)) → found ≡ joined [] found
-joined-none None = refl
-joined-none (Some bytes) = refl
 
 joined-more : (front piece : List ℕ) (found : Option (List ℕ)) → joined front (joined piece found) ≡ joined (front ++ piece) found
 joined-more front piece None = refl
@@ -70,12 +66,6 @@ piece-full content room n i number offset left held front lt is begins more full
     let next = blob_from content room (n - (i + 1)) (number + 1) 0 (left - (room - offset)) in
     ap (joined front) (rw (f, g, t) at e) ∙ joined-more front (drop offset held) next
     ∙ ap (λ (k : ℕ). joined (front ++ drop offset held) (blob_from content room (n - (i + 1)) (number + 1) 0 (left - (k - offset)))) (sym full)
-
--- no page is left
-pub piece-end : (content : ℕ → Option (List ℕ)) (room n i number offset left : ℕ) (front : List ℕ) → n ≤ i → joined front (blob_from content room (n - i) number offset left) ≡ None
-piece-end content room n i number offset left front le =
-    let e : n - i ≡ 0 = omega (arith, le) in
-    ap (λ (k : ℕ). joined front (blob_from content room k number offset left)) e
 
 -- the bytes of a part
 pub length-range : (xs : List ℕ) (a n : ℕ) → a + n ≤ length xs → length (slice_range xs a (a + n)) ≡ n

@@ -1,8 +1,7 @@
 -- What a salvage tells of the blob of a table's record is what an export tells of it.
-use Rattle.std.proofs.Common.{◌≡◌, ◌⊎◌, inl, inr, ℕ, ◌+◌, ◌-◌, ◌*◌, ◌<◌, ◌≤◌, Bool, true, false, cond, ◌&&◌, ◌==◌, nat_lt, Option, Some, None, IfSome, option_map, unwrap_or, List, [], ◌∷◌, length, take, refl, sym, ◌∙◌, ap, subst, arith}
-use Rattle.std.specs.Prelude.{nat_le}
+use Rattle.std.proofs.Common.{◌≡◌, ◌⊎◌, inl, inr, ℕ, ◌+◌, ◌-◌, ◌*◌, ◌<◌, ◌≤◌, Bool, true, false, cond, ◌==◌, nat_lt, Option, Some, None, IfSome, option_map, unwrap_or, List, [], ◌∷◌, length, take, refl, sym, ◌∙◌, ap, subst, arith}
 use Rattle.std.specs.List.{slice_get, sum_by}
-use Rattle.std.proofs.lemmas.Bool.{cases_lt, le-leb, le-ltb, lt-leb, ne_eqb, false≢true}
+use Rattle.std.proofs.lemmas.Bool.{cases_lt, le-ltb, ne_eqb, false≢true}
 use Rattle.fl_csv.specs.Text.{Absent, Bytes, Gone}
 use Rattle.fl_model.specs.Agrees.{reach_of, BlobsOf}
 use Rattle.fl_model.specs.Entry.{blob_len}
@@ -13,6 +12,7 @@ use Rattle.fl_model.specs.Ring.{Ring, oldest}
 use Rattle.fl_model.specs.Row.{stored_row}
 use Rattle.fl_model.specs.Table.{Table, Entry, VarRing, is_dirty, written}
 use Rattle.fl_model.proofs.Lists.{slice_get-short, slice_get-take, each-at}
+use Rattle.fl_model.proofs.StandingPages.{stands-kept, stands-not}
 use Rattle.fl_salvage.specs.Blobs.{blob_from, content_at, content_room}
 use Rattle.fl_salvage.specs.Ends.{form_at}
 use Rattle.fl_salvage.specs.Text.{blob_told, told_bytes}
@@ -22,21 +22,6 @@ use Rattle.fl_saved.proofs.RingsOfImage.{IsHere, facts, idle}
 use Rattle.fl_export.specs.Text.{told_blob}
 use Rattle.fl_saved.proofs.VarPages.{gone-content}
 use Rattle.fl_saved.proofs.WholeBlobs.{found-whole, found-gone}
-
--- where a page that is kept with a count of one stands, and one before the oldest doesn't
-stands : (kept : Ring) (page : ℕ) → page < kept.next → oldest kept ≤ page → slice_get kept.counts (page - oldest kept) ≡ Some 1 → page_stands kept page ≡ true
-stands kept page lt low one =
-    let a : nat_le kept.next page ≡ false = lt-leb kept.next page lt in
-    let b : nat_le (oldest kept) page ≡ true = le-leb (oldest kept) page low in
-    ap (λ (t : Bool). cond t true (nat_le (oldest kept) page && unwrap_or (option_map (λ count. count == 1) (slice_get kept.counts (page - oldest kept))) false)) a
-    ∙ ap (λ (t : Bool). t && unwrap_or (option_map (λ count. count == 1) (slice_get kept.counts (page - oldest kept))) false) b
-    ∙ ap (λ o. unwrap_or (option_map (λ count. count == 1) o) false) one
-
-gone : (kept : Ring) (page : ℕ) → page < oldest kept → page_stands kept page ≡ false
-gone kept page before =
-    let a : nat_le kept.next page ≡ false = lt-leb kept.next page (omega (arith, before)) in
-    ap (λ (t : Bool). cond t true (nat_le (oldest kept) page && unwrap_or (option_map (λ count. count == 1) (slice_get kept.counts (page - oldest kept))) false)) a
-    ∙ ap (λ (t : Bool). t && unwrap_or (option_map (λ count. count == 1) (slice_get kept.counts (page - oldest kept))) false) (lt-leb (oldest kept) page before)
 
 module _ (config : Config) (bytes : List ℕ) (place : ℕ) (plan : Plan) (table : Table) (is : IsHere config bytes place plan table) (clean : is_dirty VarRing table ≡ false)
     (i : ℕ) (entry : Entry) (here : slice_get table.entries i ≡ Some entry) (within : blob_len entry.kept ≤ plan.blob_limit) where
@@ -76,9 +61,9 @@ module _ (config : Config) (bytes : List ℕ) (place : ℕ) (plan : Plan) (table
             → told_bytes (blob_from (content_at ring bytes) (content_room ring) (length blob) entry.page entry.offset (length blob)) ≡ cond b (Bytes blob) Gone
         by_place (inl before) =
             ap told_bytes (found-gone (content_at ring bytes) (content_room ring) (length blob) entry.page entry.offset (length blob)
-            (gone-content config bytes place plan table is ring ring_is has kept kept_is clean-ring entry.page before)) ∙ same (gone kept entry.page before)
+            (gone-content config bytes place plan table is ring ring_is has kept kept_is clean-ring entry.page before)) ∙ same (stands-not kept entry.page before)
         by_place (inr at) =
-            let standing = stands kept entry.page (let w = at.2 in omega (arith, w)) at.0 at.1 in
+            let standing = stands-kept kept entry.page at.0 at.1 in
             let held = blob-held config bytes place plan table is ring ring_is has kept kept_is clean-ring entry blob (blobs-of i entry blob here has_blob some standing) at.2 some in
             ap told_bytes (found-whole (content_at ring bytes) (content_room ring) (length blob) entry.page entry.offset blob some (omega arith) held) ∙ same standing
 

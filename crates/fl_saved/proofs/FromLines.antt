@@ -10,17 +10,17 @@ use Rattle.fl_base.specs.declared.types.Geometry.{Geometry}
 use Rattle.fl_image.specs.Header.{IsAccepted}
 use Rattle.fl_image.proofs.AcceptedLines.{AreTaken, Stands, accepted-stands}
 use Rattle.fl_image.proofs.ColumnWords.{AreTyped, named-are_typed}
-use Rattle.fl_image.proofs.ReadBack.{test-passes}
 use Rattle.fl_model.specs.Image.{IsTableImage, medium_len}
 use Rattle.fl_model.specs.Record.{Column, Plan, Config, blocks_of, has_var, row_len}
 use Rattle.fl_model.specs.Table.{Table}
+use Rattle.fl_model.proofs.Lists.{sum_by-next}
 use Rattle.fl_schema.specs.Form.{key_width}
 use Rattle.fl_schema.specs.Types.{column_of}
 use Rattle.fl_schema.specs.declared.schema.KeyWidth.{KeyWidth}
 use Rattle.fl_schema.specs.declared.schema.KeyWidth.TheVariants.{Four, Eight}
-use Rattle.fl_parts.proofs.KeptPages.{sum-next}
 use Rattle.fl_words.specs.Command.{TableLine}
 use Rattle.fl_words.specs.Config.{Lines, columns_in, device_faults, first_fault, plan_of, table_faults}
+use Rattle.fl_words.proofs.Tests.{test-passes}
 use Rattle.fl_saved.proofs.RingsOfImage.{IsHere, IsMadePlan}
 
 -- a key of 4 or 8 bytes
@@ -101,7 +101,7 @@ here-from lines config bytes place plan table accepted device plans plan_is len 
     let stands : Stands (Some config.geometry) config.plans = subst (Stands (Some config.geometry)) plans (subst (λ d. Stands d lines.plans) device (accepted-stands lines accepted)) in
     let dev = stands.0 in
     let made = taken-at config.geometry [] config.plans place plan dev.passes stands.1 plan_is in
-    let next = sum-next blocks_of config.plans place plan plan_is in
+    let next = sum_by-next blocks_of config.plans place plan plan_is in
     let whole = sum_by-take-le blocks_of config.plans (suc place) in
     let within : sum_by blocks_of (take place config.plans) + blocks_of plan ≤ sum_by blocks_of config.plans = omega (arith, next, whole) in
     let blocks : (sum_by blocks_of (take place config.plans) + blocks_of plan) * plan.geometry.block ≤ sum_by blocks_of config.plans * plan.geometry.block = mul-le-mul_right plan.geometry.block within in

@@ -8,6 +8,7 @@ use Rattle.std.proofs.lemmas.List.Sums.{sum_by-cons}
 use Rattle.std.proofs.lemmas.Nat.{mod-mul-add, mod_below}
 use Rattle.std.specs.List.{AllByRecursion, flat_map, slice_get, sum}
 use Rattle.std.specs.List.Sorted.{IsPermutation}
+use Rattle.std.proofs.lemmas.Grind.{flat_map-append}
 use Rattle.fl_model.proofs.Lists.{drop_none}
 use Rattle.fl_saved.proofs.Orders.{Rises}
 
@@ -54,13 +55,9 @@ gather-none f a (suc n) h =
 
 -- ---- texts
 
-pub flat-append : {X Y : Type 0} (k : X → List Y) (xs ys : List X) → flat_map k (xs ++ ys) ≡ flat_map k xs ++ flat_map k ys
-flat-append k [] ys = refl
-flat-append k (x ∷ xs) ys = ap (λ l. k x ++ l) (flat-append k xs ys) ∙ sym (append_assoc (k x) (flat_map k xs) (flat_map k ys))
-
 pub flat-gather : {X Y : Type 0} (k : X → List Y) (f : ℕ → List X) (a n : ℕ) → flat_map k (gather f a n) ≡ gather (λ i. flat_map k (f i)) a n
 flat-gather k f a zero = refl
-flat-gather k f a (suc n) = flat-append k (f a) (gather f (a + 1) n) ∙ ap (λ l. flat_map k (f a) ++ l) (flat-gather k f (a + 1) n)
+flat-gather k f a (suc n) = flat_map-append k (f a) (gather f (a + 1) n) ∙ ap (λ l. flat_map k (f a) ++ l) (flat-gather k f (a + 1) n)
 
 -- what stands in parts, as many as these counts say, one after another
 pub gather-parts : {X Y : Type 0} (k : X → List Y) (f : ℕ → List Y) (a : ℕ) (counts : List ℕ) (xs : List X) → sum counts ≡ length xs
@@ -75,7 +72,7 @@ gather-parts {X} k f a (c ∷ counts) xs all h =
     let p : a + 1 + i ≡ a + suc i = omega arith in
     let part : drop (sum (take (suc i) (c ∷ counts))) xs ≡ drop (sum (take i counts)) (drop c xs) = ap (λ n. drop n xs) (sum_by-cons (λ (n : ℕ). n) c (take i counts)) ∙ sym (drop-drop (sum (take i counts)) c xs) in
     ap f p ∙ h (suc i) d e ∙ ap (λ l. flat_map k (take d l)) part))
-    ∙ sym (flat-append k (take c xs) (drop c xs)) ∙ ap (flat_map k) (take-append-drop c xs)
+    ∙ sym (flat_map-append k (take c xs) (drop c xs)) ∙ ap (flat_map k) (take-append-drop c xs)
 
 -- ---- around a ring
 

@@ -19,15 +19,15 @@ use Rattle.fl_model.specs.Record.{Plan, RowLayout, Config, has_var, row_layout, 
 use Rattle.fl_model.specs.Ring.{Ring, oldest}
 use Rattle.fl_model.specs.Row.{stored_row}
 use Rattle.fl_model.specs.Table.{Table, Entry, DataRing, VarRing, shape_of, written}
-use Rattle.fl_model.proofs.Lists.{slice_get-short, slice_get-drop, slice_get-front, slice_get-take, each-drop, each-take, each-at}
+use Rattle.fl_model.proofs.Lists.{slice_get-short, slice_get-drop, slice_get-front, slice_get-take, each-drop, each-take, each-at, sum_by-next}
 use Rattle.fl_model.proofs.BlobEnds.{AreNumbered}
+use Rattle.fl_model.proofs.StoredRows.{all-stored}
 use Rattle.fl_page.specs.Header.{page_number, page_count}
 use Rattle.fl_page.specs.Page.{IsGoodPage, rows_in}
 use Rattle.fl_page.proofs.DataPages.{IsDataPage, data_page}
 use Rattle.fl_page.proofs.WriterSteps.{layout_some}
 use Rattle.fl_ring.proofs.Found.{committed_state}
 use Rattle.fl_ring.proofs.Images.{committed_is}
-use Rattle.fl_parts.proofs.KeptPages.{all-stored, sum-next}
 use Rattle.fl_salvage.specs.Pages.{found_at, has_rows, if_committed, numbered, numbers_at, page_of, with_number, with_passed}
 use Rattle.fl_salvage.specs.declared.passed_over.PassedOver.{PassedOver}
 use Rattle.fl_salvage.specs.Text.{Form, rows_of}
@@ -162,7 +162,7 @@ module _ (config : Config) (bytes : List ℕ) (place : ℕ) (plan : Plan) (table
   module _ (i count : ℕ) (e : slice_get table.rows.counts i ≡ Some count) (some : 0 < count) where
     within : sum (take i table.rows.counts) + count ≤ length table.entries
     within =
-        let next : sum (take (suc i) table.rows.counts) ≡ sum (take i table.rows.counts) + count = sum-next (λ (n : ℕ). n) table.rows.counts i count e in
+        let next : sum (take (suc i) table.rows.counts) ≡ sum (take i table.rows.counts) + count = sum_by-next (λ (n : ℕ). n) table.rows.counts i count e in
         omega (arith, next, sum_by-take-le (λ (n : ℕ). n) table.rows.counts (suc i), counted)
 
     many : length (map stored_row (rows_at table i count)) ≡ count

@@ -12,12 +12,12 @@ use Rattle.fl_model.specs.Record.{Plan, Config, has_var}
 use Rattle.fl_model.specs.Table.{Table, Entry}
 use Rattle.fl_model.specs.Image.{IsTableImage}
 use Rattle.fl_model.proofs.Lists.{slice_get-some, slice_get-short}
+use Rattle.fl_model.proofs.TableImages.{images-at, images-many}
 use Rattle.fl_config.specs.Whole.{Makes}
 use Rattle.fl_image.specs.Header.{IsAccepted, IsMade}
 use Rattle.fl_image.specs.declared.status.ToolStatus.TheVariants.{Done}
 use Rattle.fl_store.proofs.Opened.{made-image, same-lines}
 use Rattle.fl_image.proofs.Made.{made-by}
-use Rattle.fl_store.proofs.Images.{images-at, images-many}
 use Rattle.fl_words.specs.Medium.{IsImage}
 use Rattle.fl_salvage.specs.Given.{IsConfigured}
 use Rattle.fl_salvage.specs.declared.passed_over.PassedOver.{PassedOver}

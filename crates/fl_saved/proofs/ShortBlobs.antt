@@ -1,45 +1,26 @@
 -- No blob of a table is longer than its plan allows, in each state of a run that began so.
 use Rattle.std.proofs.Common.{◌≡◌, ℕ, zero, suc, ◌+◌, ◌≤◌, Bool, true, false, cond, Option, Some, None, List, [], ◌∷◌, map, refl, sym, ◌∙◌, ap, subst, arith, inl, inr, MatchBool}
-use Rattle.std.specs.List.{slice_get}
-use Rattle.std.proofs.lemmas.Option.{none-some, same_Some}
-use Rattle.fl_base.specs.declared.types.CutKind.{CutKind}
+use Rattle.std.specs.List.{slice_get, AllByRecursion}
+use Rattle.std.proofs.lemmas.Option.{same_Some}
 use Rattle.fl_base.specs.Generator.{next_random}
 use Rattle.fl_model.specs.Entry.{blob_len}
-use Rattle.fl_model.specs.Record.{Record, Plan, Config, bytes_equal, has_log}
+use Rattle.fl_model.specs.Record.{Record, Plan, Config, has_log}
 use Rattle.fl_model.specs.Table.{Table, refusal_of, put_joined, put_record, table_seals, flushed, lose}
-use Rattle.fl_model.specs.Work.{Operation, done, Leaves, Either, Device, Progress, Outcome, Finished, CutShort, Failed, Performs, PerformsFirst, cut_now, counted, changed_at}
+use Rattle.fl_model.specs.Work.{Operation, done, Device, Progress, Outcome, Finished, CutShort, Failed, Performs, changed_at}
 use Rattle.fl_model.specs.Puts.{Puts, PutGoesOn, join_operations}
 use Rattle.fl_model.specs.Mount.{Turn, turned_at, operations_at, turns_from, Mounts, MountEnd, Mounted, Stopped, Unread, GoesOn, ready}
 use Rattle.fl_words.specs.Command as command
 use Rattle.fl_words.specs.Command.{Command}
 use Rattle.fl_words.specs.Reply as reply
 use Rattle.fl_machine.specs.Machine.{Machine}
-use Rattle.fl_machine.specs.Step.{Moment, StepOf, Says, EndsAs, EndsMount, LoadsFrom, LoadsOn, Located, located, located_from, cursor_at, no_column, load_record, all_ready}
+use Rattle.fl_machine.specs.Step.{Moment, StepOf, Says, EndsAs, EndsMount, LoadsFrom, LoadsOn, Located, located, load_record, all_ready}
 use Rattle.fl_machine.specs.Run.{Run, end_of}
 use Rattle.fl_machine.proofs.Places.{Both, RelAt, both-refl, both-trans, rel-changed_by, rel-changed_at, rel-map}
-use Rattle.fl_machine.proofs.Performed.{either_ending}
-use Rattle.fl_machine.proofs.LoggedSteps.{with-mounted, with-option, with-table}
+use Rattle.fl_machine.proofs.StepCases.{IsQuiet, quiet-step, with-option, with-table}
+use Rattle.fl_machine.proofs.LoggedPuts.{located-is}
+use Rattle.fl_machine.proofs.Performed.{performs-rel}
 use Rattle.fl_saved.specs.ShortBlobs.{ShortBlobsStay}
 use Rattle.fl_saved.proofs.ShortTables.{Keeps, keeps-effect, keeps-seals, keeps-put, keeps-record, keeps-turned, keeps-lose, keeps-trans, item-short}
-
--- the plan of a table that was found by its name
-located-by : (start : ℕ) (plans : List Plan) (tables : List Table) (name : List ℕ) (at : Located) → located_from start plans tables name ≡ Some at → (k : ℕ) × (at.place ≡ start + k) × (slice_get plans k ≡ Some at.plan)
-located-by start [] tables name at e = absurd (none-some at e)
-located-by start (plan ∷ plans) [] name at e = absurd (none-some at e)
-located-by start (plan ∷ plans) (t ∷ tables) name at e = by_name (bytes_equal plan.name name) e (λ g. located-by (start + 1) plans tables name at g)
-  where
-    by_name : (b : Bool) → cond b (Some (record { place = start; plan = plan; table = t })) (located_from (start + 1) plans tables name) ≡ Some at →
-        (located_from (start + 1) plans tables name ≡ Some at → (k : ℕ) × (at.place ≡ (start + 1) + k) × (slice_get plans k ≡ Some at.plan)) → (k : ℕ) × (at.place ≡ start + k) × (slice_get (plan ∷ plans) k ≡ Some at.plan)
-    by_name true e go =
-        let same : record { place = start; plan = plan; table = t } ≡ at = cc (e) in
-        (zero, (let q : at.place ≡ start = ap (λ (a : Located). a.place) (sym same) in omega (arith, q)), ap (λ (a : Located). Some a.plan) same)
-    by_name false e go = let r = go e in (suc r.0, (let q = r.1 in omega (arith, q)), r.2)
-
-located-plan : (plans : List Plan) (tables : List Table) (name : List ℕ) (at : Located) → located_from 0 plans tables name ≡ Some at → slice_get plans at.place ≡ Some at.plan
-located-plan plans tables name at e =
-    let r = located-by 0 plans tables name at e in
-    let same : r.0 ≡ at.place = let q = r.1 in omega (arith, q) in
-    subst (λ n. slice_get plans n ≡ Some at.plan) same r.2
 
 -- ---- all tables, seen at one place
 
@@ -60,19 +41,12 @@ done-keeps limit p plans o tables = rel-changed_by (Keeps limit) (λ x g. g) o.t
 
 performs-keep : (limit p : ℕ) (plans : List Plan) (rose : Bool) (operations : List Operation) (device : Device) (tables : List Table) (end : Progress) →
     Performs plans rose operations device tables end → KeepsAt limit p tables end.tables
-performs-keep limit p plans rose [] device tables end h = at-same limit p tables end.tables h.2
-performs-keep limit p plans rose (o ∷ operations) device tables end h =
-    first (cut_now device) h (λ g. performs-keep limit p plans rose operations (counted o.kind device) (done plans o tables) end g)
+performs-keep limit p plans rose operations device tables end h =
+    performs-rel (KeepsAt limit p) (at-refl limit p) (at-trans limit p) plans rose operations device tables end (each operations) h
   where
-    leaves : Leaves Either tables (done plans o tables) end.tables → KeepsAt limit p tables end.tables
-    leaves (inl e) = at-same limit p tables end.tables e
-    leaves (inr e) = subst (λ (ts : List Table). KeepsAt limit p tables ts) (sym e) (done-keeps limit p plans o tables)
-
-    first : (now : Option CutKind) → PerformsFirst plans rose now o device tables end (Performs plans rose operations (counted o.kind device) (done plans o tables) end) →
-        (Performs plans rose operations (counted o.kind device) (done plans o tables) end → KeepsAt limit p (done plans o tables) end.tables) → KeepsAt limit p tables end.tables
-    first (Some kind) h go = leaves (either_ending rose kind o.kind tables (done plans o tables) end.tables h.2)
-    first None (inl h) go = leaves h.3
-    first None (inr h) go = at-trans limit p tables (done plans o tables) end.tables (done-keeps limit p plans o tables) (go h)
+    each : (operations : List Operation) → AllByRecursion (λ o. (xs : List Table) → KeepsAt limit p xs (done plans o xs)) operations
+    each [] = tt
+    each (o ∷ operations) = (λ xs. done-keeps limit p plans o xs, each operations)
 
 puts-keep : (limit p : ℕ) (plans : List Plan) (rose : Bool) (plan : Plan) (place : ℕ) (item : Record) (table : Table) (device : Device) (tables : List Table) (end : Progress) →
     (place ≡ p → blob_len item ≤ limit) → Puts plans rose plan place item table device tables end → KeepsAt limit p tables end.tables
@@ -143,6 +117,9 @@ after-is limit p old m new e h = subst (λ (x : Machine). KeepsAt limit p old.ta
 stays : (limit p : ℕ) (old : Machine) (m : Moment) (new : Machine) → m.after ≡ new → new.tables ≡ old.tables → StepKeeps limit p old m
 stays limit p old m new e s = after-is limit p old m new e (at-same limit p old.tables new.tables s)
 
+quiet : (config : Config) (limit p : ℕ) (old : Machine) (m : Moment) (c : Command) → IsQuiet c → StepOf config old m c → StepKeeps limit p old m
+quiet config limit p old m c q h = stays limit p old m m.after refl (quiet-step config old m c q h).tables
+
 ends-keep : (limit p : ℕ) (old new : Machine) (m : Moment) (end : Progress) (o : Outcome) (ok : List _) → KeepsAt limit p old.tables new.tables → KeepsAt limit p old.tables end.tables → EndsAs o old m end [] ok new → StepKeeps limit p old m
 ends-keep limit p old new m end Finished ok h k e = after-is limit p old m new e.after_is h
 ends-keep limit p old new m end (CutShort last) ok h k e = after-is limit p old m _ e.after_is (at-trans limit p old.tables end.tables (map lose end.tables) k (lose-keeps limit p end.tables))
@@ -172,14 +149,14 @@ loads-keep config limit p old m plan place step seed (suc turns) i s loaded devi
     goes_on end (Failed last) k others rest g = after-is limit p old m _ g.after_is (at-trans limit p old.tables end.tables (map lose end.tables) k (lose-keeps limit p end.tables))
 
 step-keeps : (config : Config) (limit p : ℕ) (old : Machine) (m : Moment) (c : Command) → ((plan : Plan) → slice_get config.plans p ≡ Some plan → plan.blob_limit ≤ limit) → StepOf config old m c → StepKeeps limit p old m
-step-keeps config limit p old m command.Nothing most h = stays limit p old m _ h.after_is refl
+step-keeps config limit p old m command.Nothing most h = quiet config limit p old m command.Nothing tt h
 step-keeps config limit p old m command.Mount most h = by_test old.mounted h
   where
     by_test : (b : Bool) → MatchBool b (Says m (reply.AlreadyMounted ∷ []) old) ((how : MountEnd) × Mounts config.plans m.rose (turns_from 0 config.plans) old.device old.tables how × EndsMount config old m how) → StepKeeps limit p old m
     by_test true h = stays limit p old m _ h.after_is refl
     by_test false (how, did, ends) = mount-keeps config limit p old m how (mounts-keep limit p config.plans m.rose (turns_from 0 config.plans) old.device old.tables how did) ends
 step-keeps config limit p old m command.Off most h = after-is limit p old m _ h.after_is (lose-keeps limit p old.tables)
-step-keeps config limit p old m (command.Cut n kind) most h = stays limit p old m _ h.after_is refl
+step-keeps config limit p old m (command.Cut n kind) most h = quiet config limit p old m (command.Cut n kind) tt h
 step-keeps config limit p old m (command.Put name key values blob) most h =
     let item : Record = record { key = key; values = values; blob = blob } in
     with-table config old m name _ _
@@ -193,7 +170,7 @@ step-keeps config limit p old m (command.Put name key values blob) most h =
     short : (at : Located) → located config old name ≡ Some at → refusal_of at.plan at.table (record { key = key; values = values; blob = blob }) ≡ None → at.place ≡ p → blob_len (record { key = key; values = values; blob = blob }) ≤ limit
     short at a ok e =
         let within = item-short at.plan at.table (record { key = key; values = values; blob = blob }) ok in
-        let fits = most at.plan (subst (λ n. slice_get config.plans n ≡ Some at.plan) e (located-plan config.plans old.tables name at a)) in
+        let fits = most at.plan (subst (λ n. slice_get config.plans n ≡ Some at.plan) e (located-is config old name at a).plan) in
         omega (arith, within, fits)
 step-keeps config limit p old m (command.Flush name) most h =
     with-table config old m name _ _
@@ -201,31 +178,18 @@ step-keeps config limit p old m (command.Flush name) most h =
     (rel-changed_at (Keeps limit) (λ x g. g) at.place p (flushed at.plan) old.tables (λ x e. keeps-seals limit at.plan (table_seals at.plan x) x))
     (performs-keep limit p config.plans m.rose _ old.device old.tables g.0 g.1) g.2)
     (λ r s. stays limit p old m _ s.after_is refl) h
-step-keeps config limit p old m (command.Get name key) most h = with-table config old m name _ _ (λ at a b k. stays limit p old m _ k.0 refl) (λ r s. stays limit p old m _ s.after_is refl) h
-step-keeps config limit p old m (command.Blob name key) most h = with-table config old m name _ _ (λ at a b k. stays limit p old m _ k.0 refl) (λ r s. stays limit p old m _ s.after_is refl) h
-step-keeps config limit p old m (command.Scan name range span) most h = with-table config old m name _ _ (λ at a b k. stays limit p old m _ k.0 refl) (λ r s. stays limit p old m _ s.after_is refl) h
-step-keeps config limit p old m (command.Open cursor name range span) most h = with-table config old m name _ _ (λ at a b k. stays limit p old m _ k.after_is refl) (λ r s. stays limit p old m _ s.after_is refl) h
-step-keeps config limit p old m (command.Next cursor count) most h =
-    with-mounted old m _ _
-    (λ b k. with-option (cursor_at old cursor) _ _ _ (λ q s. stays limit p old m _ s.after_is refl)
-    (λ open_cursor q n. with-option (slice_get config.plans open_cursor.table) _ _ _ (λ q s. stays limit p old m _ s.after_is refl)
-    (λ plan q n'. with-option (slice_get old.tables open_cursor.table) _ _ _ (λ q s. stays limit p old m _ s.after_is refl)
-    (λ table q n''. stays limit p old m _ n''.1.2 refl) n') n) k)
-    (λ s. stays limit p old m _ s.after_is refl) h
-step-keeps config limit p old m (command.Close cursor) most h =
-    with-mounted old m _ _
-    (λ b k. with-option (cursor_at old cursor) _ _ _ (λ q s. stays limit p old m _ s.after_is refl) (λ open_cursor q s. stays limit p old m _ s.after_is refl) k)
-    (λ s. stays limit p old m _ s.after_is refl) h
-step-keeps config limit p old m (command.Select name range column op value) most h =
-    with-table config old m name _ _ (λ at a b k. with-option (no_column at.plan (column ∷ [])) _ _ _ (λ q k. stays limit p old m _ k.0 refl) (λ _ q s. stays limit p old m _ s.after_is refl) k) (λ r s. stays limit p old m _ s.after_is refl) h
-step-keeps config limit p old m (command.Project name range columns) most h =
-    with-table config old m name _ _ (λ at a b k. with-option (no_column at.plan columns) _ _ _ (λ q k. stays limit p old m _ k.0 refl) (λ _ q s. stays limit p old m _ s.after_is refl) k) (λ r s. stays limit p old m _ s.after_is refl) h
-step-keeps config limit p old m (command.Agg name range column width) most h =
-    with-table config old m name _ _ (λ at a b k. with-option (no_column at.plan (column ∷ [])) _ _ _ (λ q k. stays limit p old m _ k.0 refl) (λ _ q s. stays limit p old m _ s.after_is refl) k) (λ r s. stays limit p old m _ s.after_is refl) h
-step-keeps config limit p old m (command.Join left right range) most h =
-    with-table config old m left _ _ (λ at a b k. with-table config old m right _ _ (λ at a b k. stays limit p old m _ k.0 refl) (λ r s. stays limit p old m _ s.after_is refl) k) (λ r s. stays limit p old m _ s.after_is refl) h
-step-keeps config limit p old m (command.Stat name) most h = with-table config old m name _ _ (λ at a b k. stays limit p old m _ k.after_is refl) (λ r s. stays limit p old m _ s.after_is refl) h
-step-keeps config limit p old m command.Cost most h = stays limit p old m _ h.after_is refl
+step-keeps config limit p old m (command.Get name key) most h = quiet config limit p old m (command.Get name key) tt h
+step-keeps config limit p old m (command.Blob name key) most h = quiet config limit p old m (command.Blob name key) tt h
+step-keeps config limit p old m (command.Scan name range span) most h = quiet config limit p old m (command.Scan name range span) tt h
+step-keeps config limit p old m (command.Open cursor name range span) most h = quiet config limit p old m (command.Open cursor name range span) tt h
+step-keeps config limit p old m (command.Next cursor count) most h = quiet config limit p old m (command.Next cursor count) tt h
+step-keeps config limit p old m (command.Close cursor) most h = quiet config limit p old m (command.Close cursor) tt h
+step-keeps config limit p old m (command.Select name range column op value) most h = quiet config limit p old m (command.Select name range column op value) tt h
+step-keeps config limit p old m (command.Project name range columns) most h = quiet config limit p old m (command.Project name range columns) tt h
+step-keeps config limit p old m (command.Agg name range column width) most h = quiet config limit p old m (command.Agg name range column width) tt h
+step-keeps config limit p old m (command.Join left right range) most h = quiet config limit p old m (command.Join left right range) tt h
+step-keeps config limit p old m (command.Stat name) most h = quiet config limit p old m (command.Stat name) tt h
+step-keeps config limit p old m command.Cost most h = quiet config limit p old m command.Cost tt h
 step-keeps config limit p old m (command.Load name count step seed) most h =
     with-table config old m name _ _ (λ at a b k. loads-keep config limit p old m at.plan at.place step seed count 1 (next_random seed) 0 old.device old.tables (at-refl limit p old.tables) k) (λ r s. stays limit p old m _ s.after_is refl) h
 step-keeps config limit p old m (command.Device page block) most h = absurd h

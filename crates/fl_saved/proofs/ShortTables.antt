@@ -1,5 +1,5 @@
 -- What changes a table brings no blob in that is longer than a limit.
-use Rattle.std.proofs.Common.{◌≡◌, ℕ, ◌-◌, ◌≤◌, Bool, true, false, cond, Option, Some, None, option_map, unwrap_or, List, [], ◌∷◌, ◌++◌, length, filter, refl, sym, subst, arith}
+use Rattle.std.proofs.Common.{◌≡◌, ℕ, ◌-◌, ◌≤◌, Bool, true, false, cond, Option, Some, None, option_map, unwrap_or, List, [], ◌∷◌, ◌++◌, length, refl, sym, subst, arith}
 use Rattle.std.specs.List.{sum}
 use Rattle.fl_model.specs.Entry.{blob_len}
 use Rattle.fl_model.specs.Record.{Record, Plan}
@@ -7,26 +7,12 @@ use Rattle.fl_model.specs.Ring.{given_up, sealed}
 use Rattle.fl_model.specs.Table.{Table, Entry, RingName, DataRing, IndexRing, VarRing, LogRing, shape_of, refusal_of, put_joined, put_record, join_seals, make_room_seals, seal_buffer, after_seal, after_seals, has_rows, is_after, is_rows_spent, lose, owed, pending_entries, written, with_room}
 use Rattle.fl_model.specs.Work.{Kind, Body, Mark, VoidMark, Erase, effect}
 use Rattle.fl_model.specs.Mount.{Turn, Of, Replay, turned, ready}
-use Rattle.fl_model.proofs.Lists.{each-drop, each-push, each-take}
-use Rattle.fl_parts.proofs.Accepted.{accepted}
+use Rattle.fl_model.proofs.Lists.{each-drop, each-push, each-take, each-append, each-filter}
+use Rattle.fl_model.proofs.Accepted.{accepted}
 use Rattle.fl_saved.specs.ShortBlobs.{AreShort, HasShortBlobs}
 
 abbrev pub Keeps : ℕ → Table → Table → Type 0
 Keeps limit x y = HasShortBlobs limit x → HasShortBlobs limit y
-
--- ---- lists of records
-
-each-filter : (limit : ℕ) (test : Entry → Bool) (entries : List Entry) → AreShort limit entries → AreShort limit (filter test entries)
-each-filter limit test [] h = tt
-each-filter limit test (x ∷ xs) h = by_test (test x) (each-filter limit test xs h.1)
-  where
-    by_test : (b : Bool) → AreShort limit (filter test xs) → AreShort limit (cond b (x ∷ filter test xs) (filter test xs))
-    by_test true k = (h.0, k)
-    by_test false k = k
-
-each-append : (limit : ℕ) (xs ys : List Entry) → AreShort limit xs → AreShort limit ys → AreShort limit (xs ++ ys)
-each-append limit [] ys h k = k
-each-append limit (x ∷ xs) ys h k = (h.0, each-append limit xs ys h.1 k)
 
 -- ---- one table
 
@@ -89,7 +75,7 @@ module _ (limit : ℕ) where
     where
       by_spent : (s : Bool) → HasShortBlobs limit (cond s (ready plan t) (record (ready plan t) { entries = (ready plan t).entries ++ owed (ready plan t); pending = length (owed (ready plan t)) }))
       by_spent true = record { records = h.records; logged = h.logged }
-      by_spent false = record { records = each-append limit t.entries (owed (ready plan t)) h.records (each-filter limit (λ entry. is_after (written (ready plan t)) entry) t.logged h.logged); logged = h.logged }
+      by_spent false = record { records = each-append Short t.entries (owed (ready plan t)) h.records (each-filter Short (λ entry. is_after (written (ready plan t)) entry) t.logged h.logged); logged = h.logged }
 
   pub keeps-lose : (t : Table) → Keeps limit t (lose t)
   keeps-lose t h = record { records = each-take Short (length t.entries - t.pending) t.entries h.records; logged = h.logged }

@@ -11,7 +11,7 @@ use Rattle.fl_model.specs.Record.{Plan, Config, has_var}
 use Rattle.fl_model.specs.Ring.{oldest}
 use Rattle.fl_model.specs.Row.{Row, stored_row}
 use Rattle.fl_model.specs.Table.{Table, Entry, DataRing, VarRing, is_dirty}
-use Rattle.fl_model.proofs.Lists.{each-at}
+use Rattle.fl_model.proofs.Lists.{each-at, take_none}
 use Rattle.fl_salvage.specs.Ends.{form_at}
 use Rattle.fl_salvage.specs.Pages.{IsInOrder, numbers_at, numbered}
 use Rattle.fl_salvage.specs.Text.{Form, page_text, row_text, salvaged_text}
@@ -58,10 +58,6 @@ module _ (config : Config) (bytes : List ℕ) (place : ℕ) (plan : Plan) (table
   abbrev lines_if : ℕ → List ℕ
   lines_if number = flat_map (page_text form bytes) (number_if (count_of table.rows) number)
 
-  take-none : (xs : List Entry) → take 0 xs ≡ []
-  take-none [] = refl
-  take-none (x ∷ xs) = refl
-
   kept-lines : (i count : ℕ) → slice_get table.rows.counts i ≡ Some count → lines_if (oldest table.rows + i) ≡ flat_map line (rows_at table i count)
   kept-lines i count e =
       ap (λ c. flat_map (page_text form bytes) (if_some (nat_lt 0 c) (oldest table.rows + i))) (kept-count table.rows i count (oldest table.rows + i) refl e) ∙ by_count (cases_lt 0 count)
@@ -81,7 +77,7 @@ module _ (config : Config) (bytes : List ℕ) (place : ℕ) (plan : Plan) (table
       by_count (inr none) =
           let z : count ≡ 0 = omega (arith, none) in
           ap (λ c. flat_map (page_text form bytes) (if_some (nat_lt 0 c) (oldest table.rows + i))) z
-          ∙ sym (ap (λ c. flat_map line (take c (drop (sum (take i table.rows.counts)) table.entries))) z ∙ ap (flat_map line) (take-none (drop (sum (take i table.rows.counts)) table.entries)))
+          ∙ sym (ap (λ c. flat_map line (take c (drop (sum (take i table.rows.counts)) table.entries))) z ∙ ap (flat_map line) (take_none (drop (sum (take i table.rows.counts)) table.entries)))
 
   -- ---- the lines of all pages
 

@@ -1,5 +1,5 @@
 -- Numbers and values in bytes, and back.
-use Rattle.std.proofs.Common.{◌≡◌, ℕ, zero, suc, ◌+◌, ◌-◌, ◌*◌, ◌^◌, ◌<◌, ◌≤◌, true, ℤ, pos, negsuc, List, [], ◌∷◌, ◌++◌, length, take, drop, slice_range, get_or, refl, sym, ap, ◌∙◌, arith, length-append, length-take, length-drop, inl, inr, lit≤}
+use Rattle.std.proofs.Common.{◌≡◌, ℕ, zero, suc, ◌+◌, ◌-◌, ◌*◌, ◌^◌, ◌<◌, ◌≤◌, true, ℤ, pos, negsuc, Option, Some, None, List, [], ◌∷◌, ◌++◌, length, take, drop, slice_range, get_or, refl, sym, ap, ◌∙◌, arith, length-append, length-take, length-drop, inl, inr, lit≤}
 use Rattle.std.proofs.lemmas.Bool.{cases_lt}
 use Rattle.std.proofs.Math.Nat.{pow-le-pow_right}
 use Rattle.std.proofs.lemmas.List.{take_at, take_all, drop_all, drop-drop, append-nil, length-take-le, get_or-take, get_or-drop, get_or_past}
@@ -10,8 +10,9 @@ use Rattle.std.proofs.lemmas.Int.{to_z-of_z}
 use Rattle.byteorder.specs.Endian.{little_number, low_bytes}
 use Rattle.byteorder.specs.Numbers.{little_from-cons, little_from-lt, little_number-reads_back, length-bytes_low_first}
 use Rattle.fl_base.specs.Bytes.{splice}
+use Rattle.fl_base.specs.declared.types.BlobRef.{BlobRef}
 use Rattle.fl_model.specs.Record.{fits}
-use Rattle.fl_model.specs.Row.{le, value_bytes, value_in, number_of}
+use Rattle.fl_model.specs.Row.{le, reference_bytes, value_bytes, value_in, number_of}
 use Rattle.fl_schema.specs.Types.{column_of}
 use Rattle.fl_schema.specs.declared.column.ColumnType.{ColumnType}
 use Rattle.fl_schema.specs.declared.column.ColumnType.TheVariants.{U8, I8, U16, I16, U32, I32, I64}
@@ -36,6 +37,10 @@ number_of-le count n h =
 pub length-value_bytes : (of : ColumnType) (value : ℤ) → length (value_bytes (column_of of) value) ≡ (column_of of).width
 length-value_bytes of (pos n) = length-le (column_of of).width n
 length-value_bytes of (negsuc n) = length-le (column_of of).width (2 ^ (8 * (column_of of).width) - 1 - n)
+
+pub length-reference_bytes : (blob : Option BlobRef) → length (reference_bytes blob) ≡ 10
+length-reference_bytes None = refl
+length-reference_bytes (Some blob) = refl
 
 -- the low bytes of a value that fits are those of its column
 pub low_bytes_are : (of : ColumnType) (value : ℤ) → fits (column_of of) value ≡ true → le (column_of of).width (low_bytes w64 (column_of of).width value) ≡ value_bytes (column_of of) value

@@ -14,7 +14,7 @@ use Rattle.fl_schema.specs.declared.column.ColumnType.{ColumnType}
 use Rattle.fl_schema.specs.declared.column.ColumnType.TheVariants.{U8, I8, U16, I16, U32, I32, I64}
 use Rattle.fl_schema.specs.declared.schema.KeyWidth.{KeyWidth}
 use Rattle.fl_schema.specs.declared.schema.KeyWidth.TheVariants.{Four, Eight}
-use Rattle.fl_schema.proofs.Numbers.{length-le, number_of-le, length-value_bytes}
+use Rattle.fl_schema.proofs.Numbers.{length-le, number_of-le, length-value_bytes, length-reference_bytes}
 use Rattle.fl_schema.proofs.Places.{columns_len-cons, misfit_parts}
 use Rattle.fl_schema.proofs.References.{ten_255, all_255}
 
@@ -59,10 +59,6 @@ values_in-values_bytes n (of ∷ types) (v ∷ vs) behind many fit =
     ∙ ap (λ (x : ℤ). x ∷ values_in (map column_of types) (drop column.width (here ++ there ++ behind))) (value_in-value_bytes of v parts.0)
     ∙ ap (λ (l : List ℕ). v ∷ values_in (map column_of types) l) back
     ∙ ap (λ (l : List ℤ). v ∷ l) (values_in-values_bytes (n + 1) types vs behind (omega arith) parts.1)
-
-length-reference_bytes : (blob : Option BlobRef) → length (reference_bytes blob) ≡ 10
-length-reference_bytes None = refl
-length-reference_bytes (Some blob) = refl
 
 length-end : (blobs : Bool) (blob : Option BlobRef) → length (if blobs then reference_bytes blob else []) ≡ (if blobs then 10 else 0)
 length-end true blob = length-reference_bytes blob

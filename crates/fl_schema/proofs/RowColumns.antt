@@ -1,5 +1,5 @@
 -- A row that is written column by column.
-use Rattle.std.proofs.Common.{◌≡◌, ℕ, ◌+◌, ◌-◌, ◌*◌, ◌^◌, ◌<◌, ◌≤◌, Bool, true, false, if◌then◌else◌, ℤ, pos, Option, Some, None, IfSome, List, [], ◌++◌, length, take, drop, get_or, refl, sym, ap, ◌∙◌, arith, append_assoc, length-append}
+use Rattle.std.proofs.Common.{◌≡◌, ℕ, ◌+◌, ◌-◌, ◌*◌, ◌^◌, ◌<◌, ◌≤◌, Bool, true, false, if◌then◌else◌, ℤ, pos, Option, Some, None, IfSome, List, [], ◌++◌, length, take, drop, get_or, sym, ap, ◌∙◌, arith, append_assoc, length-append}
 use Rattle.std.proofs.lemmas.Bool.{true≢false}
 use Rattle.std.proofs.lemmas.List.{take_at, take_all, drop_all, append-nil, length-take-le}
 use Rattle.fl_base.specs.Bytes.{splice}
@@ -122,10 +122,6 @@ reference-place width cs blobs row some is =
 
 pub back-again : (n : ℕ) → 10 ≤ n → n - 10 + 10 ≡ n
 back-again n most = omega (arith, most)
-
-pub length-reference_bytes : (blob : Option BlobRef) → length (reference_bytes blob) ≡ 10
-length-reference_bytes None = refl
-length-reference_bytes (Some blob) = refl
 
 -- a row that can't refer to a blob refers to none
 pub no-reference : (layout : RowLayout) (blob : Option BlobRef) → layout.blobs ≡ false → IfSome blob (FitsReference layout) → IfSome blob FitsBytes

@@ -4,10 +4,11 @@ use Rattle.std.specs.Prelude.{unwrap_or, MatchOption, MatchBool}
 use Rattle.std.specs.List.{list_all}
 use Rattle.std.proofs.lemmas.List.{append_assoc, append-nil, drop_all, take_all}
 use Rattle.std.proofs.lemmas.Option.{none-some}
-use Rattle.std.proofs.lemmas.Bool.{ne_eqb}
+use Rattle.std.proofs.lemmas.Bool.{ne_eqb, and_parts}
 use Rattle.std.proofs.lemmas.Bool.Decides.{nat_tests}
 use Rattle.std.proofs.lemmas.Simd.{chunk-drop, length-chunk, take_more_put_chunk}
 use Rattle.std.specs.Simd.Lanes.{chunk, put_chunk}
+use Rattle.std.proofs.Math.Bool.{and-false, and-true}
 use Rattle.fl_words.specs.Grammar.{hex_bytes, hex_value, onto_bytes}
 use Rattle.fl_script.specs.Pairs.{pairs_of}
 
@@ -48,11 +49,7 @@ neither false b front rest e = refl
 pair : (all : Bool) (h l : Option ℕ) (front : List ℕ) (rest : Option (List ℕ)) → IsRead h (unwrap_or h 16) → IsRead l (unwrap_or l 16) →
     behind all front (onto_bytes h l rest) ≡ behind (all && (is_value (unwrap_or h 16) && is_value (unwrap_or l 16))) (front ++ ((unwrap_or h 16 * 16 % 256 + unwrap_or l 16) % 256 ∷ [])) rest
 pair all None l front rest is isl = nothing all front ∙ sym (neither all (false && is_value (unwrap_or l 16)) (front ++ ((16 * 16 % 256 + unwrap_or l 16) % 256 ∷ [])) rest refl)
-pair all (Some v) None front rest is isl = nothing all front ∙ sym (neither all (is_value v && false) (front ++ ((v * 16 % 256 + 16) % 256 ∷ [])) rest (no (is_value v)))
-  where
-    no : (b : Bool) → b && false ≡ false
-    no true = refl
-    no false = refl
+pair all (Some v) None front rest is isl = nothing all front ∙ sym (neither all (is_value v && false) (front ++ ((v * 16 % 256 + 16) % 256 ∷ [])) rest (and-false (is_value v)))
 pair all (Some v) (Some w) front rest is isl =
     let v-is : is_value v ≡ true = ap not (ne_eqb v 16 (λ e. absurd (omega (arith, e, is.1)))) in
     let w-is : is_value w ≡ true = ap not (ne_eqb w 16 (λ e. absurd (omega (arith, e, isl.1)))) in
@@ -64,10 +61,6 @@ pair all (Some v) (Some w) front rest is isl =
     whole true None = refl
     whole false rest = refl
 
-and_true : (b : Bool) → b && true ≡ b
-and_true true = refl
-and_true false = refl
-
 and_both : (a b c d : Bool) → (a && (b && c)) && d ≡ a && (b && (c && d))
 and_both true true c d = refl
 and_both true false c d = refl
@@ -76,7 +69,7 @@ and_both false b c d = refl
 -- so many pairs more
 block : (n : ℕ) (all : Bool) (xs front rest : List ℕ) → length xs ≡ 2 * n →
     behind all front (hex_bytes (xs ++ rest)) ≡ behind (all && list_all is_value (map value_of xs)) (front ++ pairs_of (map value_of xs)) (hex_bytes rest)
-block zero all [] front rest long = sym (λ i. behind (and_true all i) (append-nil front i) (hex_bytes rest))
+block zero all [] front rest long = sym (λ i. behind (and-true all i) (append-nil front i) (hex_bytes rest))
 block zero all (x ∷ xs) front rest long = absurd (omega (arith, long))
 block (suc n) all [] front rest long = absurd (omega (arith, long))
 block (suc n) all (x ∷ []) front rest long = absurd (omega (arith, long))
@@ -165,8 +158,4 @@ padded n xs pad long digits =
 pub still_values : (k : ℕ) (xs : List ℕ) → list_all is_value (map value_of xs) ≡ true → list_all is_value (map value_of (drop k xs)) ≡ true
 still_values zero xs h = h
 still_values (suc k) [] h = refl
-still_values (suc k) (x ∷ xs) h = still_values k xs (others (is_value (value_of x)) _ h)
-  where
-    others : (a b : Bool) → a && b ≡ true → b ≡ true
-    others true b h = h
-    others false b h = cc h
+still_values (suc k) (x ∷ xs) h = still_values k xs (and_parts (is_value (value_of x)) _ h).1

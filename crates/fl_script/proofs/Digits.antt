@@ -1,9 +1,9 @@
 -- A number, read digit by digit.
-use Rattle.std.proofs.Common.{◌≡◌, ℕ, ◌+◌, ◌-◌, ◌*◌, ◌<◌, ◌≤◌, true, false, ◌&&◌, nat_le, if◌then◌else◌, List, [], ◌∷◌, length, drop, get_or, Result, Ok, Err, ◌∙◌, arith}
+use Rattle.std.proofs.Common.{◌≡◌, ℕ, ◌+◌, ◌-◌, ◌*◌, ◌<◌, ◌≤◌, true, ◌&&◌, nat_le, if◌then◌else◌, List, [], ◌∷◌, length, drop, get_or, Result, Ok, Err, ◌∙◌, arith}
 use Rattle.std.specs.List.{list_all, fold}
 use Rattle.std.proofs.lemmas.List.{at_drop_more, at_drop_all}
 use Rattle.std.proofs.lemmas.Bool.Decides.{nat_tests}
-use Rattle.fl_words.specs.Grammar.{LineFault, Number, is_digit, number, greatest_number}
+use Rattle.fl_words.specs.Grammar.{LineFault, Number, is_digit, greatest_number}
 
 -- the number that a value and the digits behind it are
 abbrev pub number_from : ℕ → List ℕ → Result ℕ LineFault
@@ -15,15 +15,8 @@ more : (value : ℕ) (digits : List ℕ) → value ≤ fold (λ v digit. v * 10 
 more value [] = omega arith
 more value (digit ∷ digits) = omega (arith, more (value * 10 + (digit - 48)) digits)
 
-pub begins : (word : List ℕ) → 0 < length word → number word ≡ number_from 0 word
-begins [] h = absurd (omega arith)
-begins (byte ∷ bytes) h = grind (arith, nat_tests)
-
 pub with_digit : (value digit : ℕ) (digits : List ℕ) → is_digit digit ≡ true → number_from value (digit ∷ digits) ≡ number_from (value * 10 + (digit - 48)) digits
 with_digit value digit digits h = rw h
-
-pub with_other : (value byte : ℕ) (bytes : List ℕ) → is_digit byte ≡ false → number_from value (byte ∷ bytes) ≡ Err Number
-with_other value byte bytes h = rw h
 
 pub too_large : (value : ℕ) (digits : List ℕ) → greatest_number < value → number_from value digits ≡ Err Number
 too_large value digits h =
@@ -37,9 +30,6 @@ ends value h = grind (arith, nat_tests)
 pub digit_at : (word : List ℕ) (i value : ℕ) → i < length word → is_digit (get_or word i 0) ≡ true
     → number_from value (drop i word) ≡ number_from (value * 10 + (get_or word i 0 - 48)) (drop (i + 1) word)
 digit_at word i value lt h = at_drop_more (number_from value) word i 0 lt ∙ with_digit value (get_or word i 0) (drop (i + 1) word) h
-
-pub other_at : (word : List ℕ) (i value : ℕ) → i < length word → is_digit (get_or word i 0) ≡ false → number_from value (drop i word) ≡ Err Number
-other_at word i value lt h = at_drop_more (number_from value) word i 0 lt ∙ with_other value (get_or word i 0) (drop (i + 1) word) h
 
 pub large_at : (word : List ℕ) (i value : ℕ) → i < length word → is_digit (get_or word i 0) ≡ true
     → greatest_number < value * 10 + (get_or word i 0 - 48) → number_from value (drop i word) ≡ Err Number

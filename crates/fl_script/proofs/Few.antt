@@ -1,5 +1,5 @@
 -- The words of a line of so many.
-use Rattle.std.proofs.Common.{◌≡◌, ℕ, ℤ, zero, suc, ◌-◌, ◌<◌, ◌≤◌, List, [], ◌∷◌, length, map, take, drop, get_or, Result, Err, refl, sym, ap, arith, Bor, inl, inr}
+use Rattle.std.proofs.Common.{◌≡◌, ℕ, ℤ, ◌-◌, ◌<◌, ◌≤◌, List, [], ◌∷◌, length, map, take, drop, get_or, Result, Err, refl, sym, ap, arith, Bor, inl, inr, take_all}
 use Rattle.fl_words.specs.Grammar.{LineFault, Number, number, signed, ◌>>=◌}
 use Rattle.fl_words.specs.Command.{Command}
 use Rattle.fl_script.specs.Lines.{IsBadRange, IsBadSpan}
@@ -52,13 +52,6 @@ six (a ∷ b ∷ c ∷ d ∷ []) least most = absurd (omega (arith, least))
 six (a ∷ b ∷ c ∷ d ∷ e ∷ []) least most = absurd (omega (arith, least))
 six (a ∷ b ∷ c ∷ d ∷ e ∷ f ∷ []) least most = refl
 six (a ∷ b ∷ c ∷ d ∷ e ∷ f ∷ g ∷ words) least most = absurd (omega (arith, most))
-
--- a list taken whole
-take_all : {X : Type 0} (n : ℕ) (xs : List X) → length xs ≤ n → take n xs ≡ xs
-take_all zero [] h = refl
-take_all zero (x ∷ xs) h = absurd (omega (arith, h))
-take_all (suc n) [] h = refl
-take_all (suc n) (x ∷ xs) h = ap (λ ys. x ∷ ys) (take_all n xs (omega (arith, h)))
 
 -- eleven words, and the others
 pub eleven : (words : List (Bor (List ℕ))) → 11 ≤ length words

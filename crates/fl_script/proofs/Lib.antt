@@ -7,6 +7,7 @@ pub mod Lanes
 pub mod Few
 pub mod Lists
 pub mod Long
+pub mod Numbers
 pub mod Puts
 pub mod LineForms
 pub mod Spaces

@@ -1,47 +1,18 @@
 -- Lists of numbers, read word by word.
-use Rattle.std.proofs.Common.{◌≡◌, ℕ, ℤ, ◌+◌, ◌<◌, ◌≤◌, Bool, true, false, ◌&&◌, nat_le, if◌then◌else◌, List, [], ◌∷◌, ◌++◌, length, map, drop, get_or, Option, Some, None, Result, Ok, Err, refl, sym, ap, ◌∙◌, arith, cond, zero-add, append_assoc, append-nil, length-append, Bor, eqb, eqb-true}
+use Rattle.std.proofs.Common.{◌≡◌, ℕ, ℤ, ◌+◌, ◌<◌, ◌≤◌, Bool, true, false, ◌&&◌, nat_le, if◌then◌else◌, List, [], ◌∷◌, ◌++◌, length, map, drop, get_or, Option, Some, None, Result, Ok, Err, refl, sym, ◌∙◌, arith, cond, append_assoc, append-nil, length-append, Bor, eqb, eqb-true}
 use Rattle.std.specs.List.{list_all}
 use Rattle.std.proofs.lemmas.List.{at_drop_more, at_drop_all}
 use Rattle.std.proofs.lemmas.Bool.Decides.{nat_tests}
 use Rattle.fl_script.specs.Lines.{is_column}
-use Rattle.fl_words.specs.Grammar.{LineFault, Number, signed, each_signed, are_digits, value_of, number, columns_of, ◌>>=◌}
-use Rattle.fl_words.specs.Parts.{comma_parts}
+use Rattle.fl_words.specs.Grammar.{LineFault, Number, each_signed, are_digits, value_of, number, ◌>>=◌}
 
 -- the numbers so far, and those of the other words
 abbrev pub each_from : List ℤ → List (Bor (List ℕ)) → Result (List ℤ) LineFault
 each_from done words = each_signed (map (λ word. word.now) words) >>= λ values. Ok (done ++ values)
 
-pub each_begins : (words : List (Bor (List ℕ))) → each_signed (map (λ word. word.now) words) ≡ each_from [] words
-each_begins words = begins (each_signed (map (λ word. word.now) words))
-  where
-    begins : (r : Result (List ℤ) LineFault) → r ≡ (r >>= λ values. Ok ([] ++ values))
-    begins (Ok values) = refl
-    begins (Err e) = refl
-
-each_more : (done : List ℤ) (word : Bor (List ℕ)) (words : List (Bor (List ℕ))) (value : ℤ) → signed word.now ≡ Ok value → each_from done (word ∷ words) ≡ each_from (done ++ value ∷ []) words
-each_more done word words value h = rw h (more (each_signed (map (λ word. word.now) words)))
-  where
-    more : (r : Result (List ℤ) LineFault) → ((r >>= λ values. Ok (value ∷ values)) >>= λ values. Ok (done ++ values)) ≡ (r >>= λ values. Ok ((done ++ value ∷ []) ++ values))
-    more (Ok values) = ap Ok (sym (append_assoc done (value ∷ []) values))
-    more (Err e) = refl
-
-pub each_at : (words : List (Bor (List ℕ))) (i : ℕ) (d : Bor (List ℕ)) (done : List ℤ) (value : ℤ) → i < length words → signed (get_or words i d).now ≡ Ok value
-    → each_from done (drop i words) ≡ each_from (done ++ value ∷ []) (drop (i + 1) words)
-each_at words i d done value lt h = at_drop_more (each_from done) words i d lt ∙ each_more done (get_or words i d) (drop (i + 1) words) value h
-
-pub each_bad : (words : List (Bor (List ℕ))) (i : ℕ) (d : Bor (List ℕ)) (done : List ℤ) → i < length words → signed (get_or words i d).now ≡ Err Number
-    → each_from done (drop i words) ≡ Err Number
-each_bad words i d done lt h = at_drop_more (each_from done) words i d lt ∙ rw h refl
-
-pub each_ends : (words : List (Bor (List ℕ))) (i : ℕ) (done : List ℤ) → length words ≤ i → each_from done (drop i words) ≡ Ok done
-each_ends words i done h = at_drop_all (each_from done) words i h ∙ ap Ok (append-nil done)
-
 abbrev pub columns_from : List ℕ → List (List ℕ) → Option (List ℕ)
 columns_from done parts =
     if list_all is_column parts && nat_le (length done + length parts) 8 then Some (done ++ map value_of parts) else None
-
-pub columns_begin : (word : List ℕ) → columns_of word ≡ columns_from [] (comma_parts word)
-columns_begin word = rw (zero-add (length (comma_parts word))) refl
 
 columns_more : (done : List ℕ) (part : List ℕ) (parts : List (List ℕ)) → is_column part ≡ true → columns_from done (part ∷ parts) ≡ columns_from (done ++ value_of part ∷ []) parts
 columns_more done part parts h =

@@ -13,6 +13,10 @@ never : {A : Type 0} (b : Bool) → form {A = A} b (Err Form) ≡ Err Form
 never true = refl
 never false = refl
 
+pub no-form : {A : Type 0} (b : Bool) (r : Result A LineFault) → form (b && false) r ≡ Err Form
+no-form true r = refl
+no-form false r = refl
+
 long-bare : (made : Command) (words : List (List ℕ)) → 20 < length words → bare_line made words ≡ Err Form
 long-bare made [] long = absurd (omega (arith, long))
 long-bare made (a ∷ words) long = refl
@@ -155,11 +159,7 @@ long-put (a ∷ []) long = absurd (omega (arith, long))
 long-put (a ∷ b ∷ words) long =
     let most = values words in
     let size : nat_le (length (blob_split words).0) 16 ≡ false = grind (arith, nat_tests, most, long) in
-    ap (λ t. form (is_name a && t) (put_blob a b (blob_split words).0 (blob_split words).1)) size ∙ no (is_name a) (put_blob a b (blob_split words).0 (blob_split words).1)
-  where
-    no : (t : Bool) (r : Result Command LineFault) → form (t && false) r ≡ Err Form
-    no true r = refl
-    no false r = refl
+    ap (λ t. form (is_name a && t) (put_blob a b (blob_split words).0 (blob_split words).1)) size ∙ no-form (is_name a) (put_blob a b (blob_split words).0 (blob_split words).1)
 
 -- so the first 21 words tell what the line is
 pub by_first : (word : List ℕ) (words : List (List ℕ)) → line_of word (take 21 words) ≡ line_of word words

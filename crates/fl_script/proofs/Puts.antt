@@ -1,12 +1,12 @@
 -- The values of a put and its blob word.
-use Rattle.std.proofs.Common.{◌≡◌, ℕ, ◌<◌, ◌≤◌, Bool, true, false, List, [], ◌∷◌, ◌++◌, length, map, Option, Some, None, Result, Err, codes, refl, sym, ap, ◌∙◌, arith, cond, Bor, append_assoc, take, drop, ◌-◌, ◌&&◌, nat_le}
+use Rattle.std.proofs.Common.{◌≡◌, ℕ, ◌<◌, ◌≤◌, Bool, true, false, List, [], ◌∷◌, ◌++◌, length, map, Option, Some, None, Err, codes, refl, sym, ap, ◌∙◌, arith, cond, Bor, append_assoc, take, drop, ◌-◌, nat_le}
 use Rattle.std.proofs.lemmas.Bool.Decides.{nat_tests}
 use Rattle.fl_script.proofs.Few.{word_at}
 use Rattle.std.proofs.lemmas.List.{map-append, length-map, take_all}
 use Rattle.fl_model.specs.Record.{bytes_equal}
-use Rattle.fl_words.specs.Command.{Command}
-use Rattle.fl_words.specs.Grammar.{LineFault, Form, blob_split, blob_word, put_blob, put_parts, part, form, is_name, put_line}
+use Rattle.fl_words.specs.Grammar.{Form, blob_split, blob_word, put_blob, put_parts, part, is_name, put_line}
 use Rattle.fl_script.specs.Lines.{blob_bytes, just}
+use Rattle.fl_script.proofs.Long.{no-form}
 
 abbrev marked : Bool → List (List ℕ) → List ℕ → List ℕ → List (List ℕ) × Option (List ℕ)
 marked t values mark blob = cond t (values, Some blob) (values ++ mark ∷ blob ∷ [], None)
@@ -43,14 +43,6 @@ no_blob words rest values mark blob e f h =
     ap blob_split (ends words rest values mark blob e f) ∙ last_two (nows values) mark.now blob.now
     ∙ ap (λ t. marked t (nows values) mark.now blob.now) h ∙ ap (λ xs. (xs, None)) (sym (ends words rest values mark blob e f))
 
-pub only_one : (words rest : List (Bor (List ℕ))) (blob : Bor (List ℕ)) → words ≡ rest ++ blob ∷ [] → length rest ≡ 0 → blob_split (nows words) ≡ (nows words, None)
-only_one words [] blob e h = ap blob_split (ap nows e) ∙ ap (λ xs. (xs, None)) (sym (ap nows e))
-only_one words (a ∷ rest) blob e h = absurd (omega (arith, h))
-
-pub no_word : (words : List (Bor (List ℕ))) → length words ≡ 0 → blob_split (nows words) ≡ (nows words, None)
-no_word [] h = refl
-no_word (a ∷ words) h = absurd (omega (arith, h))
-
 -- a put by the bytes of its blob word
 pub put_by : (name key : List ℕ) (words : List (List ℕ)) (blob : Option (List ℕ)) → put_blob name key words blob ≡ part (blob_bytes blob) (λ bytes. put_parts name key words bytes)
 put_by name key words None = refl
@@ -86,8 +78,4 @@ pub too_many : (words values : List (Bor (List ℕ))) (blob : Option (List ℕ))
     → blob_split (nows (take (length words - 2) (drop 2 words))) ≡ (nows values, blob) → 16 < length values → put_line (nows words) ≡ Err Form
 too_many words values blob h s many =
     let size : nat_le (length (nows values)) 16 ≡ false = grind (arith, nat_tests, length-map values (λ (word : Bor (List ℕ)). word.now)) in
-    rw (two_and_more words h, s, size) (never (is_name (word_at words 0)) _)
-  where
-    never : (b : Bool) (r : Result Command LineFault) → form (b && false) r ≡ Err Form
-    never true r = refl
-    never false r = refl
+    rw (two_and_more words h, s, size) (no-form (is_name (word_at words 0)) _)

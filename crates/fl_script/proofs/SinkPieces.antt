@@ -1,8 +1,9 @@
 -- What stands in a sink while a text is written to it piece by piece.
-use Rattle.std.proofs.Common.{◌≡◌, ℕ, Option, Some, None, Result, Ok, Err, IsErr, List, ◌++◌, take, drop, append_assoc, rules, sym, ◌∙◌, ap}
+use Rattle.std.proofs.Common.{◌≡◌, ℕ, Option, Some, None, Result, Ok, Err, IsErr, List, [], ◌++◌, take, drop, append_assoc, append-nil, rules, refl, sym, ◌∙◌, ap}
 use Rattle.std.proofs.lemmas.List.{take-append-drop}
 use Rattle.fl_base.specs.Causes.{Appends, AppendsFront}
 use Rattle.fl_base.specs.Stream.{Writes}
+use Rattle.fl_base.proofs.Appended.{appends-none, appends-append, front-longer, front-behind}
 use Rattle.fl_script.specs.Written.{Written}
 
 -- so far a front of the bytes was appended, and these are left
@@ -11,11 +12,13 @@ pub record Sent (before now : Option (List ℕ)) (bytes left : List ℕ) : Type 
   pub parts : front ++ left ≡ bytes
   pub appended : Appends before now front
 
-pub appends-append : (before mid now : Option (List ℕ)) (xs ys : List ℕ) → Appends before mid xs → Appends mid now ys → Appends before now (xs ++ ys)
-appends-append None mid now xs ys first then = tt
-appends-append (Some told) mid now xs ys first then =
-    let more : now ≡ Some (told ++ xs ++ ys) = rw first at then in
-    more ∙ ap (λ l. Some l) (append_assoc told xs ys)
+pub sent-none : (told : Option (List ℕ)) (bytes : List ℕ) → Sent told told bytes bytes
+sent-none told bytes = record { front = []; parts = refl; appended = appends-none told }
+
+pub sent-all : (before now : Option (List ℕ)) (bytes : List ℕ) → Sent before now bytes [] → Appends before now bytes
+sent-all before now bytes sent =
+    let e : sent.front ≡ bytes = sym (append-nil sent.front) ∙ sent.parts in
+    rw e at sent.appended
 
 -- a piece of a text was written whole
 pub sent-piece : (before mid now : Option (List ℕ)) (bytes left rest piece : List ℕ) → Sent before mid bytes left →
@@ -41,12 +44,7 @@ sent-next E before mid now bytes left rest n sent wrote is =
 pub sent-failed : (before mid now : Option (List ℕ)) (bytes left rest piece : List ℕ) → Sent before mid bytes left →
     AppendsFront mid now piece → piece ++ rest ≡ left → AppendsFront before now bytes
 sent-failed before mid now bytes left rest piece sent wrote is =
-    let others = wrote.1.0 ++ rest in
-    let parts : sent.front ++ wrote.0 ++ others ≡ bytes =
-    append_assoc sent.front wrote.0 others
-    ∙ ap (λ l. sent.front ++ l) (sym (append_assoc wrote.0 wrote.1.0 rest) ∙ ap (λ l. l ++ rest) wrote.1.1 ∙ is)
-    ∙ sent.parts in
-    (sent.front ++ wrote.0, (others, parts), appends-append before mid now sent.front wrote.0 sent.appended wrote.2)
+    front-longer before now (sent.front ++ piece) bytes (rest, append_assoc sent.front piece rest ∙ ap (λ l. sent.front ++ l) is ∙ sent.parts) (front-behind before mid now sent.front piece sent.appended wrote)
 
 pub written-err : {E : Type 0} (before now : Option (List ℕ)) (result : Result (Unit {0}) E) (text : List ℕ) → IsErr result →
     AppendsFront before now text → Written before now result text
@@ -56,3 +54,8 @@ written-err before now (Ok done) text is front = absurd (search (rules, is))
 pub written-ok : {E : Type 0} (before now : Option (List ℕ)) (text other : List ℕ) (result : Result (Unit {0}) E) → other ≡ text →
     Written before now result other → Written before now result text
 written-ok before now text other result is wrote = rw is at wrote
+
+-- a text behind one that was written
+pub written-behind : {E : Type 0} (before mid now : Option (List ℕ)) (first second : List ℕ) (result : Result (Unit {0}) E) → Appends before mid first → Written mid now result second → Written before now result (first ++ second)
+written-behind before mid now first second (Ok done) wrote then = appends-append before mid now first second wrote then
+written-behind before mid now first second (Err failed) wrote then = front-behind before mid now first second wrote then

@@ -29,9 +29,6 @@ pub no_part : {A B : Type 0} {o : Option A} (f : A → Result B LineFault) → o
 no_part f e = ap (λ o. part o f) e
 
 -- two tests, of which one failed
-pub not_first : {a : Bool} (b : Bool) → a ≡ false → (a && b) ≡ false
-not_first b e = ap (λ a. a && b) e
-
 pub not_both : {a b : Bool} → a ≡ true → b ≡ false → (a && b) ≡ false
 not_both e f = rw (e, f) refl
 

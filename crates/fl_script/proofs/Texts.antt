@@ -1,7 +1,8 @@
 -- Words that are compared with fixed texts.
-use Rattle.std.proofs.Common.{◌≡◌, ℕ, true, false, List, [], ◌∷◌, length, refl, arith, cond, eqb, nat_eq, ◌&&◌}
+use Rattle.std.proofs.Common.{◌≡◌, ℕ, true, false, List, [], ◌∷◌, length, refl, arith, cond, eqb, nat_eq}
 use Rattle.std.specs.Cmp.Lexicographic.{pointwise}
 use Rattle.fl_model.specs.Record.{bytes_equal}
+use Rattle.fl_model.proofs.Names.{bytes_equal-is}
 
 pub other_length : (word text : List ℕ) → (length word ≡ length text → ⊥) → bytes_equal word text ≡ false
 other_length [] [] h = absurd (h refl)
@@ -13,9 +14,4 @@ other_length (a ∷ as') (b ∷ bs) h =
 
 -- `==` on bytes
 pub same_test : (word text : List ℕ) → pointwise nat_eq word text ≡ bytes_equal word text
-same_test [] [] = refl
-same_test [] (b ∷ bs) = refl
-same_test (a ∷ as') [] = refl
-same_test (a ∷ as') (b ∷ bs) =
-    let tail = same_test as' bs in
-    elim (eqb a b) as (λ t. (t && pointwise nat_eq as' bs) ≡ cond t (bytes_equal as' bs) false) [ true ↦ tail | false ↦ refl ]
+same_test word text = bytes_equal-is word text

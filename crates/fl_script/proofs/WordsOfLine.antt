@@ -1,7 +1,7 @@
 -- The words of a line, one after the other.
 use Rattle.std.proofs.Common.{◌≡◌, ℕ, ◌+◌, ◌<◌, ◌≤◌, Bool, true, false, not, List, [], ◌∷◌, ◌++◌, length, take, drop, filter, nat_lt, refl, sym, ap, ◌∙◌, arith, cond, eqb, suc, subst, ap₂, ◌-◌, map, eqb-true, length-take, length-drop, append-nil}
 use Rattle.std.specs.List.{slice_split, onto_first, prefix_len}
-use Rattle.std.proofs.lemmas.List.{take_at, take_all, length-map}
+use Rattle.std.proofs.lemmas.List.{take_all, length-map, nil_from_length}
 use Rattle.std.proofs.lemmas.List.Sums.{prefix_len-le-length}
 use Rattle.std.proofs.lemmas.List.Folds.{length-prefix_len}
 use Rattle.std.proofs.lemmas.Bool.Decides.{nat_tests}
@@ -77,11 +77,7 @@ has_letter (byte ∷ bytes) h = has_letter-at byte bytes (is_space byte) refl (h
 
 pub none_left : (line rest : List ℕ) (n : ℕ) → rest ≡ drop n line → n ≡ prefix_len is_space line → eqb (length rest) 0 ≡ true → words_in line ≡ []
 none_left line rest n e en h =
-    sym (no_spaces line) ∙ ap words_in (sym (e ∙ ap (λ k. drop k line) en)) ∙ ap words_in (empty rest (eqb-true _ _ h))
-  where
-    empty : (xs : List ℕ) → length xs ≡ 0 → xs ≡ []
-    empty [] h = refl
-    empty (x ∷ xs) h = absurd (omega (arith, h))
+    sym (no_spaces line) ∙ ap words_in (sym (e ∙ ap (λ k. drop k line) en)) ∙ ap words_in (nil_from_length rest (eqb-true _ _ h))
 
 pub prefix_fits : (p : ℕ → Bool) (line : List ℕ) → prefix_len p line ≤ length line
 prefix_fits p line = prefix_len-le-length p line
@@ -103,11 +99,6 @@ first line rest word after n m e en h ew ea em =
       omega (arith, taken, less, fits),
       omega (arith, lens, less, fits, starts, l),
     )
-
-pub full : {X : Type 0} (f : X → List ℕ) (room : List X) (n : ℕ) (rest all : List (List ℕ)) → map f (take n room) ++ rest ≡ all → n ≡ 22 → length room ≡ 22 → map f (take n room) ≡ take 22 all
-full f room n rest all e h k =
-    let len : length (map f (take n room)) ≡ 22 = length-map (take n room) f ∙ (length-take n room ∙ omega (arith, h, k)) in
-    sym (ap (take 22) (sym e) ∙ take_at (map f (take n room)) rest 22 len)
 
 -- the words are all there
 pub all_there : {X : Type 0} (f : X → List ℕ) (room : List X) (n : ℕ) (rest all : List (List ℕ)) → map f (take n room) ++ rest ≡ all → rest ≡ [] → n ≤ 22 → map f (take n room) ≡ take 22 all

@@ -1,7 +1,7 @@
 -- The lines of a script that were run, and how a configuration goes on line by line.
-use Rattle.std.proofs.Common.{◌≡◌, ℕ, ◌+◌, ◌<◌, Some, None, Result, Err, List, [], ◌∷◌, ◌++◌, length, refl, sym, ◌∙◌, ap, append_assoc, append-nil, length-append, arith, if◌then◌else◌, lt-ltb}
+use Rattle.std.proofs.Common.{◌≡◌, ℕ, ◌+◌, Some, None, Result, List, [], ◌∷◌, ◌++◌, length, refl, sym, ◌∙◌, ap, append_assoc, append-nil, length-append, arith}
 use Rattle.fl_words.specs.Command.{Command}
-use Rattle.fl_words.specs.Grammar.{LineFault, TooLong, command_of, words_command, words_in, without_return}
+use Rattle.fl_words.specs.Grammar.{LineFault, command_of}
 use Rattle.fl_words.specs.Config.{Lines, whole, no_lines}
 use Rattle.fl_machine.specs.Script.{Unended, start_line, start_from, start_of, runs, accepted, accepted_onto, first_refused, refused_onto}
 
@@ -49,10 +49,6 @@ all_run-refused n lines line others h e = (
   h.refuses n (line ∷ others) ∙ ap (λ r. refused_onto r (n + length lines) (first_refused (n + length lines + 1) others)) e,
   h.accepts (line ∷ others) ∙ (ap (λ r. accepted lines ++ accepted_onto r (accepted others)) e ∙ append-nil (accepted lines)),
 )
-
--- a line that is too long is refused
-pub too_long-command : (line : List ℕ) → 4096 < length line → command_of line ≡ Err TooLong
-too_long-command line h = ap (λ b. if b then Err TooLong else words_command (words_in (without_return line))) (lt-ltb 4096 (length line) h)
 
 -- the configuration that lines make, before one that ends it
 pub record Configures (knots : ℕ) (lines : List (List ℕ)) (now : Lines) : Type 0 where

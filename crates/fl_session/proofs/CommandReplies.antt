@@ -1,5 +1,5 @@
 -- A command that was executed up to its reply, and the reply that was written.
-use Rattle.std.proofs.Common.{◌≡◌, ◌≤◌, ℕ, Bool, IsTrue, true, false, Option, Some, None, Result, List, [], ◌∷◌, refl, sym, ap, subst, arith, MatchBool, MatchOption}
+use Rattle.std.proofs.Common.{◌≡◌, ℕ, Bool, IsTrue, true, false, Option, Some, None, Result, List, [], ◌∷◌, refl, sym, ap, subst, MatchBool, MatchOption}
 use Rattle.fl_base.specs.Causes.{Rose}
 use Rattle.fl_flash.specs.Flash.{FlashState}
 use Rattle.fl_flash.specs.Media.{MediaState}
@@ -29,10 +29,6 @@ pub executes-answered : (E : Type 0) (config : Config) (old : Machine) (command 
     Executes config old command stands f g told told_now result
 executes-answered E config old command stands f g said told told_now result a reads stated w =
     executes-by E config old command stands f g told told_now result a.moment a.command_is a.step a.stands_after a.stays (reads a.moment a.none) (stated a.moment a.none) a.rose (subst (λ t. Written {E = E} told told_now result t) (sym a.said_is) w)
-
--- a count that stays didn't rise
-pub no-more : (a b : ℕ) → a ≡ b → a ≤ b
-no-more a b same = omega (arith, same)
 
 -- what reads leave of the medium
 pub executes-read : (E : Type 0) (config : Config) (old : Machine) (command : Command) (entries : List Entry) (notes : Notes) (f g : FlashState) (mounted : Bool) (told told_now : Option (List ℕ)) (result : Result (Unit {0}) E) (moment : Moment) → OnlyReads f g →

@@ -8,6 +8,7 @@ use Rattle.fl_words.specs.Command as words
 use Rattle.fl_words.specs.Grammar as grammar
 use Rattle.fl_words.specs.Grammar.{command_of}
 use Rattle.fl_words.specs.Config.{Lines, no_lines, whole}
+use Rattle.fl_words.proofs.Lines.{too_long-command}
 use Rattle.fl_machine.specs.Script.{Unended, BadLine, BadConfig, start_with, start_from, start_of, ended}
 use Rattle.fl_script.specs.declared.command.Command as code
 use Rattle.fl_script.specs.CommandView.{command_view}
@@ -24,7 +25,7 @@ use Rattle.fl_session.specs.Begin.{IsFresh, GoesOn, EndsIt, Refuses, AtCommand, 
 use Rattle.fl_lines.specs.declared.lines.LinesFault.{LinesFault}
 use Rattle.fl_lines.specs.declared.lines.LinesFault.TheVariants.{Failed, Long}
 use Rattle.fl_lines.proofs.LinesInTurn.{given-few, given-over, given-none, given-all, given-taken, given-most}
-use Rattle.fl_session.proofs.AcceptedLines.{Configures, configures-none, configures-end, configures-line, configures-more, too_long-command}
+use Rattle.fl_session.proofs.AcceptedLines.{Configures, configures-none, configures-end, configures-line, configures-more}
 use Rattle.fl_session.proofs.Loops.{NextLine, fits, too_long, next_line}
 
 -- the lines that were given are lines of the configuration

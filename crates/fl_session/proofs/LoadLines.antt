@@ -1,7 +1,8 @@
 -- The lines of a load, which are written one after another.
-use Rattle.std.proofs.Common.{◌≡◌, ℕ, Bool, true, false, Option, Some, Result, Ok, Err, List, [], ◌∷◌, ◌++◌, append_assoc, refl, sym, ◌∙◌, ap, subst, arith, is_err, not, slice_get}
+use Rattle.std.proofs.Common.{◌≡◌, ℕ, Bool, true, false, Option, Some, Result, Ok, Err, List, [], ◌∷◌, ◌++◌, refl, sym, subst, arith, is_err, not, slice_get}
 use Rattle.std.proofs.lemmas.Bool.{false≢true}
 use Rattle.fl_base.specs.Causes.{Appends, AppendsFront}
+use Rattle.fl_base.proofs.Appended.{front-more, front-behind}
 use Rattle.fl_flash.specs.Flash.{FlashState}
 use Rattle.fl_model.specs.Record.{Config}
 use Rattle.fl_words.specs.Command as command
@@ -9,7 +10,6 @@ use Rattle.fl_words.specs.Reply as reply
 use Rattle.fl_words.specs.Reply.{Reply, text, texts}
 use Rattle.fl_machine.specs.Machine.{Machine}
 use Rattle.fl_machine.specs.Step.{LoadStep}
-use Rattle.fl_script.proofs.SinkPieces.{appends-append}
 use Rattle.fl_script.specs.ReplyView.{reply_text}
 use Rattle.fl_script.specs.Written.{Written}
 use Rattle.fl_script.specs.declared.reply.Reply as code
@@ -20,7 +20,6 @@ use Rattle.fl_store.specs.Tables.{entries_with, IsNamed}
 use Rattle.fl_store.specs.declared.tables.Entry.{Entry}
 use Rattle.fl_session.specs.Answer.{Answers, Refusal, IsReached, load_replies}
 use Rattle.fl_store.specs.Replies.{put_reply}
-use Rattle.fl_store.proofs.Appends.{front-more}
 use Rattle.fl_session.specs.Execute.{Executes}
 use Rattle.fl_session.specs.declared.notes.Notes.{Notes}
 use Rattle.fl_session.specs.Standing.{SessionStands}
@@ -37,10 +36,8 @@ pub front-second : (told mid now : Option (List ℕ)) (count : ℕ) (outcome : R
     Appends told mid (text (reply.Loaded count)) → AppendsFront mid now line → AppendsFront told now (texts (load_replies count outcome))
 front-second told mid now count (Ok done) line e is first h = absurd (false≢true e)
 front-second told mid now count (Err refusal) line e is first h =
-    let a = text (reply.Loaded count) in
-    let parts : (a ++ h.0) ++ (h.1.0 ++ []) ≡ a ++ (text (put_reply (Err refusal)) ++ []) =
-    append_assoc a h.0 (h.1.0 ++ []) ∙ ap (λ l. a ++ l) (sym (append_assoc h.0 h.1.0 []) ∙ ap (λ l. l ++ []) (h.1.1 ∙ is)) in
-    (a ++ h.0, (h.1.0 ++ [], parts), appends-append told mid now a h.0 first h.2)
+    let second = text (put_reply (Err refusal)) in
+    front-behind told mid now (text (reply.Loaded count)) (second ++ []) first (front-more mid now second [] (subst (λ l. AppendsFront mid now l) is h))
 
 -- a load that is executed
 pub load-executes : (E : Type 0) (config : Config) (old : Machine) (entries : List Entry) (at : ℕ) (entry : Entry) (u : LoggedTable 64 64) (asked : List ℕ) (notes : Notes) (f g : FlashState) (mounted breaks : Bool) (count step seed loaded : ℕ) (outcome : Result (Unit {0}) PutRefusal) (told told_now : Option (List ℕ)) (result : Result (Unit {0}) E) →

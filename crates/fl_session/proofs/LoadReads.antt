@@ -1,13 +1,12 @@
 -- How often a medium is read while the records of a load are put.
 use Rattle.std.proofs.Common.{◌≡◌, ℕ, ◌+◌, ◌*◌, ◌≤◌, is_some, if◌then◌else◌, Bool, Option, None, Some, refl, ap, arith, add-mul}
-use Rattle.fl_index.specs.declared.index.BitmapIndex.{BitmapIndex}
 use Rattle.fl_rlc.specs.Table.{AreSameLog, IsSamePlan, rings_in, table_in}
 use Rattle.fl_rlc.specs.declared.log.RecordLog.{RecordLog}
 use Rattle.fl_rlc.specs.declared.table.LoggedTable.{LoggedTable}
-use Rattle.fl_parts.specs.Bitmaps as bitmaps
 use Rattle.fl_table.specs.BlobAt.{data_in}
 use Rattle.fl_parts.specs.Blobs.{most_pages}
-use Rattle.fl_store.proofs.InMemory.{data-same}
+use Rattle.fl_parts.proofs.IndexOfTable.{same-index}
+use Rattle.fl_parts.proofs.BlobsOfTable.{same-some}
 use Rattle.fl_var.specs.declared.var_data.VarData.{VarData}
 
 -- a record without a blob takes no page of one
@@ -16,12 +15,6 @@ no-pages None = refl
 no-pages (Some var) = refl
 
 -- a table of the same plan has the same rings
-index-same : (old new : Option BitmapIndex) → bitmaps.AreSamePlan old new → is_some new ≡ is_some old
-index-same None None same = refl
-index-same None (Some new) same = absurd same
-index-same (Some old) None same = absurd same
-index-same (Some old) (Some new) same = refl
-
 log-same : (old new : Option RecordLog) → AreSameLog old new → is_some new ≡ is_some old
 log-same None None same = refl
 log-same None (Some new) same = absurd same
@@ -33,8 +26,8 @@ one_if b = if b then 1 else 0
 
 rings-same : (t u : LoggedTable 64 64) → IsSamePlan t u → rings_in u ≡ rings_in t
 rings-same t u same =
-    let index = ap one_if (index-same t.table.bitmaps u.table.bitmaps same.table.bitmaps) in
-    let blobs = ap one_if (data-same t.table.blobs u.table.blobs same.table.blobs) in
+    let index = ap one_if (same-index t.table.bitmaps u.table.bitmaps same.table.bitmaps) in
+    let blobs = ap one_if (same-some t.table.blobs u.table.blobs same.table.blobs) in
     let log = ap one_if (log-same t.log u.log same.log) in
     omega (arith, index, blobs, log)
 

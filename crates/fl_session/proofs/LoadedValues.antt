@@ -1,11 +1,10 @@
 -- The values of the records of a load.
-use Rattle.std.proofs.Common.{◌≡◌, ℕ, zero, suc, slice_get, Some, take, subst, ◌+◌, ◌*◌, ◌%◌, ◌-ℤ◌, pos, Bool, if◌then◌else◌, List, [], ◌∷◌, ◌++◌, map, drop, get_or, length, length-append, ◌<◌, ◌≤◌, append_assoc, append-nil, add-one, refl, sym, ◌∙◌, ap, arith, drop-cons, ℤ}
+use Rattle.std.proofs.Common.{◌≡◌, ℕ, slice_get, Some, take, subst, ◌+◌, ◌*◌, ◌%◌, ◌-ℤ◌, pos, Bool, if◌then◌else◌, List, [], ◌∷◌, ◌++◌, map, drop, length, length-append, ◌≤◌, append-nil, add-one, refl, sym, ◌∙◌, ap, arith, ℤ}
 use Rattle.std.proofs.lemmas.List.{drop_all}
-use Rattle.std.proofs.lemmas.Option.{none-some}
 use Rattle.fl_model.specs.Record.{Column}
+use Rattle.fl_model.proofs.Lists.{take-next, slice_get-mapped}
 use Rattle.fl_schema.specs.declared.column.ColumnType.{ColumnType}
 use Rattle.fl_schema.specs.Types.{column_of}
-use Rattle.fl_parts.proofs.Misfits.{map-get}
 use Rattle.fl_machine.specs.Step.{load_values}
 use Rattle.fl_session.specs.declared.generator.Generator.{Generator}
 use Rattle.fl_session.specs.Load.{StandsBefore}
@@ -29,19 +28,6 @@ values-are sum i seed c (column ∷ columns) e =
     let same : (sum + c) % 200 ≡ (i * 37 + seed + c) % 200 = omega arith in
     rw (same, values-are sum i seed (c + 1) columns e) refl
 
-pub values_so_far-none : (sum : ℕ) (signed : List Bool) → ValuesSoFar sum signed [] 0
-values_so_far-none sum signed = record { count = refl; others = refl }
-
-pub values_so_far-more : (sum n : ℕ) (signed : List Bool) (values : List ℤ) (d : Bool) (value : ℤ) → n < length signed → value ≡ value_in sum (n + 1) (get_or signed n d) → ValuesSoFar sum signed values n →
-    ValuesSoFar sum signed (values ++ value ∷ []) (n + 1)
-values_so_far-more sum n signed values d value h e so_far = record {
-  count = simp length-append (omega (arith, so_far.count));
-  others =
-      append_assoc values (value ∷ []) (values_from sum (n + 1 + 1) (drop (n + 1) signed))
-      ∙ (ap (λ v. values ++ v ∷ values_from sum (n + 1 + 1) (drop (n + 1) signed)) e
-      ∙ (ap (λ l. values ++ values_from sum (n + 1) l) (sym (rw (← add-one n) at (drop-cons signed n d h))) ∙ so_far.others));
-}
-
 -- all of them are there
 pub values_so_far-all : (n : ℕ) (columns : List Column) (seed i : ℕ) (values : List ℤ) (generator : Generator) → length generator.signed.items ≤ n → ValuesSoFar generator.sum generator.signed.items values n →
     StandsBefore columns seed i generator → values ≡ load_values i seed 1 columns
@@ -51,15 +37,10 @@ values_so_far-all n columns seed i values generator h so_far stands =
     ∙ (so_far.others ∙ (ap (values_from generator.sum 1) stands.signed_are ∙ values-are generator.sum i seed 1 columns stands.sum)))
 
 -- which columns are signed
-take-get : {X : Type 0} (xs : List X) (n : ℕ) (x : X) → slice_get xs n ≡ Some x → take (suc n) xs ≡ take n xs ++ x ∷ []
-take-get [] n x e = absurd (none-some x e)
-take-get (y ∷ ys) zero x e = let same : y ≡ x = cc in rw same refl
-take-get (y ∷ ys) (suc n) x e = ap (λ zs. y ∷ zs) (take-get ys n x e)
-
 pub signs-more : (types : List ColumnType) (columns : List Column) (n : ℕ) (of : ColumnType) (signed : List Bool) (sign : Bool) (now : List Bool) → map column_of types ≡ columns → slice_get types n ≡ Some of → sign ≡ (column_of of).signed →
     length signed ≡ n → signed ≡ take n (map (λ column. column.signed) columns) → now ≡ signed ++ sign ∷ [] → (length now ≡ n + 1) × (now ≡ take (n + 1) (map (λ column. column.signed) columns))
 signs-more types columns n of signed sign now is here e count so_far k =
     let there : slice_get (map (λ column. column.signed) columns) n ≡ Some sign =
     subst (λ cs. slice_get (map (λ column. column.signed) cs) n ≡ Some sign) is
-    (map-get (λ column. column.signed) (map column_of types) n (column_of of) (map-get column_of types n of here) ∙ ap (λ b. Some b) (sym e)) in
-    (ap length k ∙ simp length-append (omega (arith, count)), k ∙ (ap (λ l. l ++ sign ∷ []) so_far ∙ (sym (take-get (map (λ column. column.signed) columns) n sign there) ∙ ap (λ k. take k (map (λ column. column.signed) columns)) (sym (add-one n)))))
+    (slice_get-mapped (λ column. column.signed) (map column_of types) n (column_of of) (slice_get-mapped column_of types n of here) ∙ ap (λ b. Some b) (sym e)) in
+    (ap length k ∙ simp length-append (omega (arith, count)), k ∙ (ap (λ l. l ++ sign ∷ []) so_far ∙ (sym (take-next (map (λ column. column.signed) columns) n sign there) ∙ ap (λ k. take k (map (λ column. column.signed) columns)) (sym (add-one n)))))

@@ -3,6 +3,7 @@ use Rattle.std.proofs.Common.{◌≡◌, ℕ, ◌+◌, ◌^◌, ◌<◌, ◌≤�
 use Rattle.fl_words.specs.Command.{Command}
 use Rattle.fl_words.specs.Grammar as grammar
 use Rattle.fl_words.specs.Grammar.{command_of}
+use Rattle.fl_words.proofs.Lines.{too_long-command}
 use Rattle.fl_machine.specs.Script.{runs, runs_read, accepted, first_refused}
 use Rattle.fl_lines.specs.Texts.{whole_lines, lines_within}
 use Rattle.fl_lines.specs.Stream.{LinesState, Gives, TakesPart, TakesAhead}
@@ -17,7 +18,7 @@ use Rattle.fl_lines.specs.declared.lines.LinesFault.{LinesFault}
 use Rattle.fl_lines.specs.declared.lines.LinesFault.TheVariants.{Failed, Long}
 use Rattle.fl_lines.specs.Given.{Given}
 use Rattle.fl_lines.proofs.LinesInTurn.{given-few, given-over, given-none, given-line, given-last, given-all, given-taken, given-most, given-too_long, IsTooLong}
-use Rattle.fl_session.proofs.AcceptedLines.{AllRun, all_run-none, all_run-more, all_run-all, all_run-refused, accepted-more, too_long-command}
+use Rattle.fl_session.proofs.AcceptedLines.{AllRun, all_run-none, all_run-more, all_run-all, all_run-refused, accepted-more}
 
 -- a line is in hand, and those before it were run
 pub record InHand (tail : Tail) (All : List Command → Type 0) (number : ℕ) (state : LinesState) (left : Option (List ℕ)) : Type 0 where

@@ -1,5 +1,5 @@
 -- The pages of a medium after a mount of its tables.
-use Rattle.std.proofs.Common.{◌≡◌, ◌⊎◌, ℕ, zero, suc, ◌+◌, ◌-◌, ◌*◌, ◌<◌, ◌≤◌, Bool, true, false, inl, inr, List, [], ◌∷◌, ◌++◌, length, take, drop, length-drop, sum_by, refl, sym, ◌∙◌, ap, subst, arith, MatchBool, replicate}
+use Rattle.std.proofs.Common.{◌≡◌, ◌⊎◌, ℕ, ◌+◌, ◌-◌, ◌*◌, ◌<◌, ◌≤◌, Bool, false, inl, inr, List, [], ◌∷◌, ◌++◌, length, take, drop, length-drop, sum_by, refl, sym, ◌∙◌, ap, subst, arith, MatchBool, replicate}
 use Rattle.std.specs.Int.Bits.{and_zero_r}
 use Rattle.std.proofs.lemmas.List.{drop_all, length-take-le}
 use Rattle.fl_base.specs.declared.types.Geometry.{Geometry}
@@ -13,6 +13,7 @@ use Rattle.fl_model.proofs.Lists.{slice_get-some}
 use Rattle.fl_machine.specs.Stays.{IsRepaired, IsReplayed, PagesAreRepaired}
 use Rattle.fl_ring.proofs.Lengths.{page_length}
 use Rattle.fl_parts.proofs.Images.{pages-medium}
+use Rattle.fl_parts.proofs.States.{blank-is}
 use Rattle.fl_store.specs.Repaired as repaired
 use Rattle.fl_store.specs.Tables.{TablesStand}
 use Rattle.fl_store.specs.declared.tables.Entry.{Entry}
@@ -30,10 +31,6 @@ marked old size len least =
     let zeros : and_bytes field (replicate 4 0) ≡ replicate 4 0 = subst (λ n. and_bytes field (replicate n 0) ≡ replicate n 0) four (and-zeros field) in
     let behind : drop (size - 4 + 4) old ≡ [] = drop_all (size - 4 + 4) old (omega (arith, len)) in
     ap (λ (l : List ℕ). take (size - 4) old ++ (l ++ drop (size - 4 + 4) old)) zeros ∙ ap (λ (l : List ℕ). take (size - 4) old ++ (replicate 4 0 ++ l)) behind
-
-blank-is : (n : ℕ) → is_blank (blank n) ≡ true
-blank-is zero = refl
-blank-is (suc n) = blank-is n
 
 -- tables have pages of 64 bytes at least
 served-by : (plans : List Plan) (entries : List Entry) (tables : List model.Table) (f : FlashState) (mounted : ℕ → Bool) (page : ℕ) → TablesStand f mounted plans entries tables → page < sum_by blocks_of plans * f.geometry.block → 64 ≤ f.geometry.page

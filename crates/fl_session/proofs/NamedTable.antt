@@ -1,6 +1,6 @@
 -- The table that a command names, and where it stands.
 use Rattle.std.proofs.Common.{◌≡◌, ℕ, ◌+◌, ◌<◌, Bool, true, None, Some, List, length, get_or, refl, ◌∙◌, ap, arith, slice_get}
-use Rattle.std.proofs.lemmas.Option.{slice_get_within}
+use Rattle.std.proofs.lemmas.Option.{slice_get_within, slice_get_read}
 use Rattle.fl_flash.specs.Flash.{FlashState}
 use Rattle.fl_model.specs.Record.{Config, Plan}
 use Rattle.fl_model.specs.Table as model
@@ -9,7 +9,7 @@ use Rattle.fl_machine.specs.Step.{located}
 use Rattle.fl_store.specs.Tables.{first_of, IsNamed, Names, EntryStands}
 use Rattle.fl_store.specs.declared.tables.Entry.{Entry}
 use Rattle.fl_store.proofs.TableByName.{AsLocated, located-first, located-none, first-named, none-named, stand-named}
-use Rattle.fl_store.proofs.TablesChanged.{at-place, item-there}
+use Rattle.fl_store.proofs.TablesChanged.{at-place}
 use Rattle.fl_session.specs.Answer.{IsReached}
 use Rattle.fl_session.specs.Standing.{SessionStands}
 use Rattle.fl_session.specs.declared.notes.Notes.{Notes}
@@ -46,4 +46,4 @@ pub reached-within : (entries : List Entry) (n : ℕ) (mounted : Bool) (asked : 
 reached-within entries n mounted asked at len r = omega (arith, slice_get_within entries at r.named.entry r.named.here, len)
 
 pub reached-here : (entries : List Entry) (mounted : Bool) (asked : List ℕ) (at : ℕ) (entry : Entry) → IsReached entries mounted asked at → entry ≡ get_or entries at entry → slice_get entries at ≡ Some entry
-reached-here entries mounted asked at entry r is = item-there entries (length entries) at entry refl (slice_get_within entries at r.named.entry r.named.here) is
+reached-here entries mounted asked at entry r is = slice_get_read entries (length entries) at entry refl (slice_get_within entries at r.named.entry r.named.here) is

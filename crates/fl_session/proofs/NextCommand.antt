@@ -4,11 +4,12 @@ use Rattle.std.proofs.lemmas.List.{length-map, map-append}
 use Rattle.std.specs.List.{AllByRecursion}
 use Rattle.std.proofs.lemmas.Grind.{flat_map-append}
 use Rattle.std.proofs.lemmas.Bool.{cases_lt}
-use Rattle.fl_base.specs.Causes.{Rose, Appends}
-use Rattle.fl_script.proofs.SinkPieces.{appends-append}
+use Rattle.fl_base.specs.Causes.{Rose}
+use Rattle.fl_base.proofs.Appended.{appends-append, appends-none}
 use Rattle.fl_flash.specs.Flash.{FlashState}
 use Rattle.fl_model.specs.Record.{Plan, Config, has_log}
 use Rattle.fl_model.specs.Spline.{lookup_limit}
+use Rattle.fl_model.proofs.Lists.{each-push}
 use Rattle.fl_words.specs.Command as command
 use Rattle.fl_words.specs.Command.{Command}
 use Rattle.fl_words.specs.Reply.{texts}
@@ -19,7 +20,7 @@ use Rattle.fl_machine.proofs.OpenCursors.{run-within}
 use Rattle.fl_machine.specs.Reads.{none_read, OnTable, OnColumns, WithinScan, GetExact, ScanExact, LimitOf, RunLimits, ExactOf, RunExact}
 use Rattle.fl_machine.specs.Small.{AreTables, most_of_a_command}
 use Rattle.fl_machine.proofs.FewReads.{limit-few}
-use Rattle.fl_machine.specs.Step.{Moment, Step, Located, located, no_column}
+use Rattle.fl_machine.specs.Step.{Moment, Step, Located, no_column}
 use Rattle.fl_machine.specs.Run.{Run, end_of, commands_of, written_by, risen_in}
 use Rattle.fl_machine.specs.Script.{Ran, RanInto, RoseBy}
 use Rattle.fl_machine.specs.WholeReads.{reads_in, RanReading, RanIntoReading}
@@ -27,6 +28,7 @@ use Rattle.fl_machine.proofs.BytesStay.{stays-more}
 use Rattle.fl_machine.specs.Keeping.{KeepsPuts, KeepsPutsAt, standing, sure_at}
 use Rattle.fl_machine.proofs.KeptPuts.{keeps-puts}
 use Rattle.fl_machine.proofs.Steps.{finds}
+use Rattle.fl_machine.proofs.Costs.{on-table-weaker}
 use Rattle.fl_session.specs.Cost.{CountsReads, ReadsGet, ReadsScan, ReadsAsStated}
 use Rattle.fl_session.specs.Execute.{Executes, IsAlike, IsReady, StandsAlike}
 
@@ -47,11 +49,6 @@ pub risen-more : (moments : List Moment) (moment : Moment) → risen_in (moments
 risen-more [] moment = omega arith
 risen-more (m ∷ moments) moment = omega (arith, risen-more moments moment)
 
--- nothing was told
-pub nothing-added : (told : Option (List ℕ)) → Appends told told []
-nothing-added None = tt
-nothing-added (Some bytes) = ap Some (sym (append-nil bytes))
-
 -- counts go on
 pub at_end : (n before mid now : ℕ) → RoseBy n before mid → mid ≤ now → RoseBy n before now
 at_end n before mid now h later = elim h [ inl a ↦ inl (omega arith) | inr a ↦ inr (omega arith) ]
@@ -66,16 +63,7 @@ rose-more n before mid now false h later rose = rw add-zero (at_end n before mid
 
 -- ---- the limits of the reads
 
--- what is so of a command on a table
-pub on-table-weaker : (config : Config) (old : Machine) (moment : Moment) (name : List ℕ) (P Q : Located → Type 0) → ((at : Located) → P at → Q at) → OnTable config old moment name P → OnTable config old moment name Q
-on-table-weaker config old moment name P Q f h = by_cases old.mounted (located config old name) h
-  where
-    by_cases : (b : Bool) (at : Option Located) → MatchBool b (MatchOption at (none_read moment) P) (none_read moment) → MatchBool b (MatchOption at (none_read moment) Q) (none_read moment)
-    by_cases true None h = h
-    by_cases true (Some at) h = f at h
-    by_cases false at h = h
-
--- .. and of one over columns
+-- what is so of a command over columns
 columns-weaker : (moment : Moment) (columns : List ℕ) (P Q : Located → Type 0) → ((at : Located) → P at → Q at) → (at : Located) → OnColumns moment columns P at → OnColumns moment columns Q at
 columns-weaker moment columns P Q f at h = by_lacked (no_column at.plan columns) h
   where
@@ -153,10 +141,6 @@ exact-more config old (m ∷ moments) moment run exact = (run.0, exact-more conf
 abbrev IsFew : Moment → Type 0
 IsFew moment = moment.reads ≤ most_of_a_command
 
-few-more : (moments : List Moment) (moment : Moment) → AllByRecursion IsFew moments → IsFew moment → AllByRecursion IsFew (moments ++ moment ∷ [])
-few-more [] moment few more = (more, tt)
-few-more (m ∷ moments) moment few more = (few.0, few-more moments moment few.1 more)
-
 few-in : (moments : List Moment) → AllByRecursion IsFew moments → reads_in moments ≤ length moments * 2 ^ 19
 few-in [] few = omega arith
 few-in (m ∷ moments) few = omega (arith, few.0, few-in moments few.1)
@@ -203,7 +187,7 @@ ran-none config old stands content faults told h = record {
   rose = inl (omega arith);
   found = λ place. finds-none config place old;
   kept = λ place. keeps-none config place old;
-  told_all = nothing-added told;
+  told_all = appends-none told;
 }
 
 -- .. which a flash counts that was never read
@@ -238,7 +222,7 @@ ran-further {E} config old commands command stands stands_now content faults mid
         stands_after = subst stands_now (e.same ∙ sym (end_of-more old h.moments e.moment)) e.stands_after;
         reads = record {
           limits = limits-more config old h.moments e.moment h.reads.limits limited.0;
-          few = few-more h.moments e.moment h.reads.few limited.1;
+          few = each-push IsFew h.moments e.moment h.reads.few limited.1;
           exact = exact-more config old h.moments e.moment h.reads.exact
               (subst (λ x. ExactOf config (end_of old h.moments) e.moment x) (sym e.command_is) (exact-by E config (end_of old h.moments) e.moment now command below e.stated));
         };
@@ -290,7 +274,7 @@ ran-into config old commands command stands stands_now content faults mid now to
         run = run;
         stands_after = (e.after, e.stands_after, subst (λ m. IsAlike m e.after) (sym (end_of-more old h.moments e.moment)) e.alike);
         limits = limits-more config old h.moments e.moment h.reads.limits limited.0;
-        few = few-more h.moments e.moment h.reads.few limited.1;
+        few = each-push IsFew h.moments e.moment h.reads.few limited.1;
         stays = stays-more config old h.moments e.moment content mid.media.content now.media.content h.stays e.stays;
         rose = rw risen-more (rose-more (risen_in h.moments) faults mid.media.faults now.media.faults e.moment.rose h.rose later e.rose);
         found = λ place. finds config old (h.moments ++ e.moment ∷ []) place ready.room ready.off ready.rest (ready.logs place) run;

@@ -3,12 +3,12 @@ use Rattle.std.proofs.Common.{◌≡◌, ℕ, Bool, true, false, Some, None, Res
 use Rattle.fl_words.specs.Command as words
 use Rattle.fl_words.specs.Grammar as grammar
 use Rattle.fl_words.specs.Grammar.{command_of}
-use Rattle.fl_machine.specs.Script.{runs, runs_read, runs_command}
+use Rattle.fl_machine.specs.Script.{runs, runs_read}
 use Rattle.fl_lines.specs.declared.lines.LinesFault.{LinesFault}
 use Rattle.fl_lines.specs.declared.lines.LinesFault.TheVariants.{Failed, Long}
 use Rattle.fl_ends.specs.declared.run.Status.{Status}
 use Rattle.fl_ends.specs.declared.run.Status.TheVariants.{Line}
-use Rattle.fl_session.specs.Next.{EndsThere, IsRefused, IsRead, IsToRun, is_config_line}
+use Rattle.fl_session.specs.Next.{EndsThere, IsRefused, IsToRun}
 
 pub ends-there : (given : Result Bool LinesFault) (line : List ℕ) (number : ℕ) (P Q : Type 0) (status : Status) → (P → Q) → EndsThere given line number P status → EndsThere given line number Q status
 ends-there (Ok true) line number P Q (Line n) f h = (h.0, f h.1)
@@ -26,23 +26,6 @@ runs-refused line h = runs-refused_of (command_of line) h
 
 pub ends-refused : (given : Result Bool LinesFault) (line : List ℕ) (number : ℕ) (status : Status) → EndsThere given line number (IsRefused (command_of line)) status → EndsThere given line number (runs line ≡ None) status
 ends-refused given line number status h = ends-there given line number (IsRefused (command_of line)) (runs line ≡ None) status (runs-refused line) h
-
-runs-config_of : (c : words.Command) → is_config_line c ≡ true → runs_command c ≡ None
-runs-config_of (words.Device page block) e = refl
-runs-config_of (words.Table line) e = refl
-runs-config_of c e = cc
-
-runs-other_of : (c : words.Command) → is_config_line c ≡ false → runs_command c ≡ Some c
-runs-other_of (words.Device page block) e = cc
-runs-other_of (words.Table line) e = cc
-runs-other_of c e = refl
-
--- a line of a configuration isn't run
-pub runs-config : (line : List ℕ) (c : words.Command) → IsRead line c → is_config_line c ≡ true → runs line ≡ None
-runs-config line c h e = ap runs_read h.reads ∙ runs-config_of c e
-
-pub to_run-other : (line : List ℕ) (c : words.Command) → IsRead line c → is_config_line c ≡ false → IsToRun line c
-to_run-other line c h e = record { reads = h.reads; runnable = record { within = h.within; runs = runs-other_of c e } }
 
 pub runs-runnable : (line : List ℕ) (c : words.Command) → IsToRun line c → runs line ≡ Some c
 runs-runnable line c h = ap runs_read h.reads ∙ h.runnable.runs

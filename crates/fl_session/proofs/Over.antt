@@ -24,6 +24,7 @@ use Rattle.fl_session.specs.Run.{RanFrom, around_of, IsOfCommands, refused_statu
 use Rattle.fl_config.specs.declared.image.ImageRefusal.{ImageRefusal}
 use Rattle.fl_config.specs.declared.image.ImageRefusal.TheVariants.{Media, Other}
 use Rattle.fl_base.specs.Causes.{Rose}
+use Rattle.fl_base.proofs.Appended.{appends-none}
 use Rattle.fl_lines.specs.Texts.{is_long, lines_read}
 use Rattle.fl_session.specs.Begin.{BeginsAt}
 use Rattle.fl_session.specs.Opening.{Opened, HalfOpened, Foreign, OpensAs, KeepsForm, MediaGoes}
@@ -32,7 +33,6 @@ use Rattle.fl_session.specs.Ends.{Ends, IsFormed, IsOther, told_of, effects_of, 
 use Rattle.fl_session.specs.ScriptEnds.{unsaid, start_in, ScriptEnds}
 use Rattle.fl_words.specs.Medium.{header}
 use Rattle.fl_config.specs.Opening.{Opens}
-use Rattle.fl_session.proofs.NextCommand.{nothing-added}
 use Rattle.fl_session.proofs.Ready.{ready-accepted, stands-ready}
 use Rattle.fl_session.proofs.RunEnds.{ran-through, ends-over, begins-ready, ends-making, ends-other}
 use Rattle.fl_session.proofs.Rested.{session-ends, opened-rests, opened-content, opened-formed}
@@ -123,7 +123,7 @@ ends-opened knots text lines first number state left left_now told told_now conf
 pub ends-half : (knots : ℕ) (text : List ℕ) (lines : Lines) (first : Option code.Command) (number : ℕ) (state : LinesState) (left told : Option (List ℕ)) (config : Config) (old new : MediaState) →
     BeginsAt knots text lines first number state left → whole knots lines ≡ Some config → IsTrue old.tells → HalfOpened config old new → Ends knots text (told_of old new left told told) MediaMake
 ends-half knots text lines first number state left told config old new begins w tells h =
-    ends-making (effects_of (told_of old new left told told) MediaMake) knots text lines first number state left config begins w (record { written = nothing-added told; kept = h.kept; part = h.part })
+    ends-making (effects_of (told_of old new left told told) MediaMake) knots text lines first number state left config begins w (record { written = appends-none told; kept = h.kept; part = h.part })
 
 pub foreign-other : (config : Config) (old new : MediaState) (wanted found at : ℕ) → IsTrue old.tells → Foreign config old new wanted found at → IsOther config old.content wanted found at
 foreign-other config old new wanted found at tells h = (h.some, elim h.other [ inl k ↦ inl k | inr k ↦ inr (k.0, k.1 tells) ])
@@ -131,7 +131,7 @@ foreign-other config old new wanted found at tells h = (h.some, elim h.other [ i
 pub ends-foreign : (knots : ℕ) (text : List ℕ) (lines : Lines) (first : Option code.Command) (number : ℕ) (state : LinesState) (left told : Option (List ℕ)) (config : Config) (old new : MediaState) (wanted found at : ℕ) →
     BeginsAt knots text lines first number state left → whole knots lines ≡ Some config → IsTrue old.tells → Foreign config old new wanted found at → Ends knots text (told_of old new left told told) (OtherConfig wanted found at)
 ends-foreign knots text lines first number state left told config old new wanted found at begins w tells h =
-    ends-other (effects_of (told_of old new left told told) (OtherConfig wanted found at)) knots text lines first number state left config wanted found at begins w (foreign-other config old new wanted found at tells h, record { content = h.kept; written = nothing-added told })
+    ends-other (effects_of (told_of old new left told told) (OtherConfig wanted found at)) knots text lines first number state left config wanted found at begins w (foreign-other config old new wanted found at tells h, record { content = h.kept; written = appends-none told })
 
 -- the statuses of the commands
 pub commands-words : (status : Status) → IsOfCommands status → status ≡ Usage → ⊥
@@ -150,8 +150,8 @@ script-refused knots text lines first number state left config Media begins w = 
 script-refused knots text lines first number state left config (Other wanted found at) begins w = ends-other unsaid knots text lines first number state left config wanted found at begins w tt
 
 pub early-refused : (config : Config) (old new : MediaState) (told : Option (List ℕ)) (refusal : ImageRefusal) → OpensAs config old (Err refusal) new → IsEarlyBy old new told told (refused_status refusal)
-early-refused config old new told Media h = record { written = nothing-added told; content = h.kept }
-early-refused config old new told (Other wanted found at) h = record { written = nothing-added told; content = h.kept }
+early-refused config old new told Media h = record { written = appends-none told; content = h.kept }
+early-refused config old new told (Other wanted found at) h = record { written = appends-none told; content = h.kept }
 
 pub make-refused : (config : Config) (old new : MediaState) (refusal : ImageRefusal) → OpensAs config old (Err refusal) new → refused_status refusal ≡ MediaMake → Rose old.faults new.faults
 make-refused config old new Media h e = h.rose

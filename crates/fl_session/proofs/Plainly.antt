@@ -1,8 +1,9 @@
 -- What was run where nothing fails is what the plain machine does.
-use Rattle.std.proofs.Common.{◌≡◌, ℕ, ◌+◌, ◌-◌, ◌^◌, Bool, true, false, cond, inl, inr, Option, Some, List, [], ◌∷◌, map, refl, sym, ap, subst, min, arith}
+use Rattle.std.proofs.Common.{◌≡◌, ℕ, ◌+◌, ◌-◌, ◌^◌, inl, inr, Option, Some, List, [], ◌∷◌, map, sym, ap, subst, min, arith}
 use Rattle.std.specs.List.{AllByRecursion, slice_get}
 use Rattle.std.proofs.lemmas.Bool.{cases_lt}
 use Rattle.fl_base.specs.Causes.{Rose}
+use Rattle.fl_base.proofs.Tests.{not_counted}
 use Rattle.fl_model.specs.Record.{Config}
 use Rattle.fl_model.specs.Table.{Table, lose}
 use Rattle.fl_words.specs.Command.{Command}
@@ -30,15 +31,11 @@ none-risen n before now calm h =
       | inr rose ↦ absurd (calm rose)
     ]
 
-risen-first : (b : Bool) (n : ℕ) → cond b 1 0 + n ≡ 0 → b ≡ false
-risen-first true n e = absurd (omega arith)
-risen-first false n e = refl
-
 -- where nothing fails each moment does just its operations
 pub does-each : (config : Config) (old : Machine) (moments : List Moment) → risen_in moments ≡ 0 → AllByRecursion IsWhole moments → CountsEach config old moments → DoesEach config old moments
 does-each config old [] risen whole h = tt
 does-each config old (m ∷ ms) risen whole h =
-    (h.0.whole (risen-first m.rose (risen_in ms) risen) whole.0, does-each config m.after ms (omega (arith, risen)) whole.1 h.1)
+    (h.0.whole (not_counted m.rose (risen_in ms) risen) whole.0, does-each config m.after ms (omega (arith, risen)) whole.1 h.1)
 
 plain-run : (config : Config) (old : Machine) (commands : List Command) (moments : List Moment) → commands_of moments ≡ commands → Run config old moments → risen_in moments ≡ 0 → IsUncut config old commands →
     IsPlainRun config old commands moments

@@ -3,6 +3,7 @@ use Rattle.std.proofs.Common.{◌≡◌, ℕ, Bool, true, false, not, IsTrue, If
 use Rattle.std.proofs.lemmas.Bool.{false≢true}
 use Rattle.std.proofs.lemmas.List.{length-map}
 use Rattle.std.proofs.lemmas.Option.{slice_get-map}
+use Rattle.std.proofs.lemmas.Iterator.Adapters.{option_map_id}
 use Rattle.fl_flash.specs.Flash.{FlashState, Goes, page_at}
 use Rattle.fl_flash.specs.declared.flash.FlashFault.{FlashFault}
 use Rattle.fl_flash.specs.declared.flash.FlashFault.TheVariants.{PowerLost, Media}
@@ -40,7 +41,7 @@ use Rattle.fl_store.specs.declared.tables.Entry.{Entry}
 use Rattle.fl_store.proofs.CallsInTurn.{planned-same}
 use Rattle.fl_store.proofs.Risen.{has_risen, risen-rose, watched}
 use Rattle.fl_store.proofs.Worked.{medium-goes}
-use Rattle.fl_store.proofs.TablesChanged.{entry-off, some-is, set-same, length-changed, tables-changed, option_map-same}
+use Rattle.fl_store.proofs.TablesChanged.{entry-off, some-is, set-same, length-changed, tables-changed}
 use Rattle.fl_session.specs.Answer.{Answers}
 use Rattle.fl_store.specs.Replies.{fault_reply, put_reply, flush_reply}
 use Rattle.fl_session.specs.declared.notes.Notes.{Notes}
@@ -133,7 +134,7 @@ module _ (config : Config) (old : Machine) (entries : List Entry) (at : ℕ) (en
       let all : TablesStand g (λ i. true) config.plans (entries_with entries at entry u) (changed_at at (λ _. after own.table) old.tables) =
       tables-changed f g (λ i. true) (λ i. true) config.plans entries old.tables (changed_at at (λ _. after own.table) old.tables) at entry now_there (λ x. x) (after own.table)
       h.tables here (outside h.medium.told) goes.geometry (length-changed at (after own.table) old.tables) (changed-there at own.table (after own.table) old.tables own.table_is)
-      (λ i other. changed-elsewhere at i (after own.table) old.tables other ∙ sym (option_map-same (slice_get old.tables i)))
+      (λ i other. changed-elsewhere at i (after own.table) old.tables other ∙ sym (option_map_id (slice_get old.tables i)))
       (λ plan e. subst (λ p. EntryStands now_there g true first p (after own.table)) (own-plan plan e) (entry-done (after own.table) stands)) (λ i plan e x other k. k) in
       record {
         knots = h.knots;

@@ -10,6 +10,7 @@ use Rattle.fl_model.specs.Facts.{IsSettled}
 use Rattle.fl_model.specs.Image.{AreTableImages}
 use Rattle.fl_model.proofs.Fresh.{new-stand}
 use Rattle.fl_model.proofs.Lists.{slice_get-some}
+use Rattle.fl_model.proofs.TableImages.{images-at, images-many}
 use Rattle.fl_words.specs.Medium.{IsImage}
 use Rattle.fl_machine.specs.Machine.{Machine, begins, fresh_tables}
 use Rattle.fl_machine.specs.Found.{IsAtRest, IsLoggedAtRest, RestsAt}
@@ -20,7 +21,6 @@ use Rattle.fl_machine.specs.Script.{Start, Ready, StandsFor, StandsAfter}
 use Rattle.fl_machine.proofs.Accepted.{IsAccepted, StartIsAccepted}
 use Rattle.fl_store.proofs.TablesChanged.{some-is}
 use Rattle.fl_session.specs.Execute.{IsReady, StandsAlike}
-use Rattle.fl_store.proofs.Images.{images-at, images-many}
 
 fresh-rest : (plans : List Plan) → AllByRecursion IsAtRest (map fresh_table plans)
 fresh-rest [] = tt

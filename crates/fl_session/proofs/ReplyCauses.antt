@@ -1,6 +1,7 @@
 -- The causes of replies, over any bytes.
 use Rattle.std.proofs.Common.{◌≡◌, ℕ, ◌<◌, Bool, true, false, not, inl, inr, Option, None, Some, Result, Ok, Err, IfErr, List, refl, sym, ◌∙◌, ap, subst, ◌↔◌, is_err, OnOk, ℤ, slice_get, is_none}
 use Rattle.fl_base.specs.declared.types.KeyRange.{KeyRange}
+use Rattle.fl_base.proofs.Appended.{appends-none}
 use Rattle.fl_frame.specs.Contents.{OnlyReads}
 use Rattle.fl_cursor.specs.declared.bookmark.Bookmark.{Bookmark}
 use Rattle.fl_flash.specs.Flash.{FlashState}
@@ -31,7 +32,6 @@ use Rattle.fl_queries.specs.LookSays.{Says}
 use Rattle.fl_queries.specs.Operators.{columns_by, AreLinesBy}
 use Rattle.fl_queries.specs.declared.operators.Operator.{Operator}
 use Rattle.fl_queries.specs.declared.operators.Operator.TheVariants.{Select, Project, Aggregate}
-use Rattle.fl_session.proofs.NextCommand.{nothing-added}
 use Rattle.fl_session.proofs.RunningPuts.{runs-on}
 use Rattle.fl_session.specs.Answer.{IsReached, Refusal}
 use Rattle.fl_session.specs.Caused.{Caused, State, state_of, Writes, IsRefused, IsHere, OnTable, IfLacks, Lists, OnlyLooks, PutFails, FlushFails, LoadCounts}
@@ -55,7 +55,7 @@ says-written E told told_now result said Holds x wrote = record { reply = x.repl
 
 -- a line that is no command
 pub caused-nothing : (E : Type 0) (command : Command) (old new : State) (told : Option (List ℕ)) → command ≡ Nothing → new ≡ old → Caused {E = E} command old new told told (Ok tt)
-caused-nothing E command old new told is same = subst (λ (x : Command). Caused {E = E} x old new told told (Ok tt)) (sym is) (nothing-added told, same)
+caused-nothing E command old new told is same = subst (λ (x : Command). Caused {E = E} x old new told told (Ok tt)) (sym is) (appends-none told, same)
 
 -- a table that is looked at
 pub only-looks : (entries : List Entry) (mounted : Bool) (a b c : Notes) (f g : FlashState) → b ≡ c → OnlyReads f g → OnlyLooks (state_of entries mounted a f) (state_of entries mounted b g) c

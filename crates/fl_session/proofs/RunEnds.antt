@@ -1,5 +1,5 @@
 -- How a run ends, from how its configuration was read, how its image was opened and how its commands were run.
-use Rattle.std.proofs.Common.{◌≡◌, ℕ, ◌+◌, ◌<◌, ◌≤◌, Bool, true, false, inl, inr, Option, Some, None, List, [], ◌∷◌, ◌++◌, length, take, drop, refl, sym, ◌∙◌, ap, subst, append_assoc, append-nil, length-append, arith, if◌then◌else◌, is_some, lt-ltb, le-ltb, ltb-false, ltb-true}
+use Rattle.std.proofs.Common.{◌≡◌, ℕ, ◌+◌, ◌<◌, ◌≤◌, Bool, true, false, inl, inr, Option, Some, None, List, [], ◌∷◌, ◌++◌, length, take, drop, refl, sym, ◌∙◌, ap, subst, append_assoc, append-nil, length-append, arith, if◌then◌else◌, lt-ltb, le-ltb, ltb-false, ltb-true}
 use Rattle.std.proofs.Math.Seq.{take-append-add, drop-append-add, drop-append_seam}
 use Rattle.fl_model.specs.Record.{Config}
 use Rattle.fl_flash.specs.Media.{MediaState}
@@ -19,6 +19,7 @@ use Rattle.fl_session.specs.Taken.{TakesLine, TakesBegin, IsUnended}
 use Rattle.fl_lines.specs.Taken.{HasTaken, TakesFew, begin_behind}
 use Rattle.fl_lines.proofs.LinesInTurn.{begin-fits}
 use Rattle.std.proofs.lemmas.List.Sums.{sum_by-append}
+use Rattle.std.proofs.lemmas.Bool.{false_from_ne_true}
 use Rattle.fl_script.specs.declared.command.Command as code
 use Rattle.fl_store.specs.NewImage.{made_image}
 use Rattle.fl_session.specs.Run.{tail_of, RanFrom, RunsFrom, IsOfCommands}
@@ -244,7 +245,7 @@ tail-over : (knots : ℕ) (text : List ℕ) (now : Lines) (number : ℕ) (state 
     (a : AtCommand knots text now number state left_now) → state.most < length (state.ahead ++ a.left) → HasTaken (state.ahead ++ a.left) (state.most + 1) left → HasTaken text (most_bytes + 1) left
 tail-over knots text now number state left_now left a more h =
     let rest = state.ahead ++ a.left in
-    let o : state.closed ≡ false = still-open state.closed (λ c. omega (arith, more, ap length (a.given.ended c))) in
+    let o : state.closed ≡ false = false_from_ne_true state.closed (λ c. omega (arith, more, ap length (a.given.ended c))) in
     let same : length a.given.begin ≡ length a.given.front = omega (arith, ap length a.given.parts, length-append a.given.begin rest, ap length (a.given.split o), length-append a.given.front rest) in
     record {
       taken = length a.given.begin + h.taken;
@@ -252,10 +253,6 @@ tail-over knots text now number state left_now left a more h =
       few = omega (arith, h.few, a.given.bytes o, same);
       left = h.left ∙ ap Some (sym (ap (drop (length a.given.begin + h.taken)) a.given.parts ∙ drop-append-add a.given.begin rest h.taken));
     }
-  where
-    still-open : (b : Bool) → (b ≡ true → ⊥) → b ≡ false
-    still-open true h = absurd (h refl)
-    still-open false h = refl
 
 -- what is said of the commands that were run is said of the whole run
 ends-of_commands : (effects : Effects) (knots : ℕ) (text : List ℕ) (now : Lines) (number : ℕ) (state : LinesState) (left left_now : Option (List ℕ)) (config : Config) (status : Status) →
@@ -388,10 +385,6 @@ pub ends-other : (effects : Effects) (knots : ℕ) (text : List ℕ) (now : Line
     BeginsAt knots text now first number state left → whole knots now ≡ Some config → effects.other config wanted found at → EndsWith effects knots text left (OtherConfig wanted found at)
 ends-other effects knots text now first number state left config wanted found at a w h =
     let ready = begins-ready knots text now first number state left config a w in (subst (λ s. EndsOther effects s wanted found at) (sym ready.2) h, begins-takes knots text now first number state left a)
-
-pub some-of : {X : Type 0} (o : Option X) → is_some o ≡ true → (x : X) × (o ≡ Some x)
-some-of None e = cc
-some-of (Some x) e = (x, refl)
 
 -- the statuses of the commands aren't early
 pub commands-early : (old new : MediaState) (told told_now : Option (List ℕ)) (status : Status) → IsOfCommands status → IsEarlyBy old new told told_now status

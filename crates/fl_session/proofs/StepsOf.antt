@@ -1,6 +1,7 @@
 -- The commands of a session, each by its step.
 use Rattle.std.proofs.Common.{◌≡◌, ℕ, ◌≤◌, Bool, false, Option, Some, None, Ok, List, [], ◌∷◌, map, refl, sym, ap, subst, arith}
 use Rattle.fl_base.specs.declared.types.CutKind.{CutKind}
+use Rattle.fl_base.proofs.Appended.{appends-none}
 use Rattle.fl_flash.specs.declared.tear.Tear.TheVariants.{Kind}
 use Rattle.fl_flash.specs.Flash.{FlashState}
 use Rattle.fl_model.specs.Record.{Config}
@@ -24,7 +25,6 @@ use Rattle.fl_session.specs.Standing.{SessionStands}
 use Rattle.fl_session.proofs.CommandReplies.{answers-saying, saying, says}
 use Rattle.fl_session.proofs.ExecutedCommand.{executes-by}
 use Rattle.fl_session.proofs.Rested.{stays-still}
-use Rattle.fl_session.proofs.NextCommand.{nothing-added}
 use Rattle.fl_store.proofs.TablesOnlyRead.{tables-kept}
 
 -- nothing is done
@@ -32,7 +32,7 @@ pub executes-nothing : (E : Type 0) (config : Config) (old : Machine) (c : Comma
     Executes {E = E} config old c (SessionStands config entries f mounted notes) f f told told (Ok tt)
 executes-nothing E config old c entries notes f mounted told e s =
     let moment = saying command.Nothing [] old in
-    let w : Written {E = E} told told (Ok tt) [] = nothing-added told in
+    let w : Written {E = E} told told (Ok tt) [] = appends-none told in
     subst (λ x. Executes {E = E} config old x (SessionStands config entries f mounted notes) f f told told (Ok tt)) (sym e)
     (executes-by E config old command.Nothing (SessionStands config entries f mounted notes) f f told told (Ok tt) moment refl (record { replies_are = refl; after_is = refl; last_is = refl }) s
     (stays-still config old moment entries notes f f mounted s refl) (refl, omega arith) tt (λ t. cc) w)

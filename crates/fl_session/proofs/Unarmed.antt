@@ -14,6 +14,7 @@ use Rattle.fl_cursor.specs.declared.bookmark.Bookmark.{Bookmark}
 use Rattle.fl_machine.specs.Machine as machine
 use Rattle.fl_machine.specs.Step.{cost_reply}
 use Rattle.fl_model.specs.Row.{Row}
+use Rattle.fl_model.proofs.Lists.{each-weaker, each-push}
 use Rattle.fl_page.specs.declared.fault.BadPage.{BadPage}
 use Rattle.fl_rlc.specs.Table.{table_in}
 use Rattle.fl_script.specs.Written.{Written}
@@ -67,8 +68,7 @@ silent told told_now result wrote = record { replies = []; written = wrote; none
 
 -- lines of a kind
 lines-other : (IsLine : Reply → Type 0) (lines : List Reply) → (IsLine reply.PowerLost → ⊥) → AllByRecursion IsLine lines → AllByRecursion IsNoLoss lines
-lines-other IsLine [] never are = tt
-lines-other IsLine (line ∷ lines) never are = ((λ is. never (subst IsLine is are.0)), lines-other IsLine lines never are.1)
+lines-other IsLine lines never are = each-weaker IsLine IsNoLoss (λ line is lost. never (subst IsLine lost is)) lines are
 
 -- lines of rows
 row-other : (blobs : Bool) (row : Row) → row_reply blobs row ≡ reply.PowerLost → ⊥
@@ -88,17 +88,12 @@ rising-other : (above : Option ℕ) (lines : List Reply) → AreRising IsRow abo
 rising-other above [] h = tt
 rising-other above (line ∷ lines) (number, is_row, rises, more) = ((λ is. subst (IsRow number) is is_row), rising-other (Some number) lines more)
 
--- .. and one that ends them
-and-last : (lines : List Reply) (last : Reply) → AllByRecursion IsNoLoss lines → IsNoLoss last → AllByRecursion IsNoLoss (lines ++ last ∷ [])
-and-last [] last are ends = (ends, tt)
-and-last (line ∷ lines) last are ends = (are.0, and-last lines last are.1 ends)
-
 listed : {E : Type 0} (AreLines : List Reply → Type 0) (Ends : Bool → ℕ → Reply → Type 0) (told told_now : Option (List ℕ)) (result : Result (Unit {0}) E) → ListSays {E = E} AreLines Ends told told_now result →
     ((lines : List Reply) → AreLines lines → AllByRecursion IsNoLoss lines) → ((taken : Bool) (count : ℕ) (last : Reply) → Ends taken count last → last ≡ reply.PowerLost → ⊥) → SaysNoLoss {E = E} told told_now result
 listed AreLines Ends told told_now result h others ends = record {
   replies = h.lines ++ h.last ∷ [];
   written = h.written;
-  none = and-last h.lines h.last (others h.lines h.are_lines) (ends (is_ok result) (length h.lines) h.last h.ends);
+  none = each-push IsNoLoss h.lines h.last (others h.lines h.are_lines) (ends (is_ok result) (length h.lines) h.last h.ends);
 }
 
 -- what ends them

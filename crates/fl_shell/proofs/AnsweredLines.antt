@@ -4,8 +4,11 @@ use Rattle.std.specs.List.{AllByRecursion}
 use Rattle.std.proofs.lemmas.Grind.{flat_map-append}
 use Rattle.std.proofs.lemmas.Bool.{false≢true}
 use Rattle.fl_base.specs.Causes.{Appends, AppendsFront, Rose}
+use Rattle.fl_base.proofs.Appended.{appends-append, appends-none}
+use Rattle.fl_base.proofs.Risen.{rose-front, rose-back}
 use Rattle.fl_flash.specs.Flash.{FlashState}
 use Rattle.fl_model.specs.Record.{Config}
+use Rattle.fl_model.proofs.Lists.{each-weaker, each-push}
 use Rattle.fl_words.specs.Command.{Command}
 use Rattle.fl_machine.specs.Machine.{Machine}
 use Rattle.fl_machine.specs.Run.{end_of, risen_in}
@@ -13,8 +16,6 @@ use Rattle.fl_machine.specs.Script.{RoseBy}
 use Rattle.fl_machine.specs.Small.{AreTables}
 use Rattle.fl_machine.specs.Step.{Moment}
 use Rattle.fl_session.specs.Execute.{IsReady, StandsAlike}
-use Rattle.fl_script.proofs.SinkPieces.{appends-append}
-use Rattle.fl_session.proofs.NextCommand.{nothing-added}
 use Rattle.fl_shell.specs.Flushing.{RanThese}
 use Rattle.fl_shell.specs.Talk.{Turn, Answers, AnswersEach, HasCauses, RanOver, moments_of, moments_onto, answers_of, after_turn}
 use Rattle.fl_shell.specs.Talking.{Answered, TalkedSoFar}
@@ -51,7 +52,7 @@ each-more config old (l ∷ lines) (t ∷ turns) line turn each more =
 
 -- before any line
 pub talked-none : (config : Config) (old : Machine) (stands : Machine → Type 0) (flash : FlashState) (told : Option (List ℕ)) → flash.work.reads ≡ 0 → stands old → TalkedSoFar config old [] stands flash.media.content flash.media.faults flash told told
-talked-none config old stands flash told unread here = record { turns = []; each = tt; runs = ran-begins config old stands flash unread here; causes = tt; told_all = nothing-added told }
+talked-none config old stands flash told unread here = record { turns = []; each = tt; runs = ran-begins config old stands flash unread here; causes = tt; told_all = appends-none told }
 
 -- ---- reads that failed beside commands
 
@@ -61,20 +62,17 @@ rose-since n faults mid now h rose = elim h [ inl a ↦ omega (arith, a, rose) |
 
 -- their causes stay, as the medium fails more often
 cause-later : (faults mid now : ℕ) (turn : Turn) → mid ≤ now → HasCauses faults mid turn → HasCauses faults now turn
-cause-later faults mid now turn later h = λ e. let rose = h e in omega (arith, rose, later)
+cause-later faults mid now turn later h = λ e. rose-front faults mid now later (h e)
 
 pub causes-later : (faults mid now : ℕ) (turns : List Turn) → mid ≤ now → AllByRecursion (HasCauses faults mid) turns → AllByRecursion (HasCauses faults now) turns
-causes-later faults mid now [] later all = tt
-causes-later faults mid now (t ∷ turns) later all = (cause-later faults mid now t later all.0, causes-later faults mid now turns later all.1)
+causes-later faults mid now turns later all = each-weaker (HasCauses faults mid) (HasCauses faults now) (λ turn h. cause-later faults mid now turn later h) turns all
 
 -- .. and are those of counts from before
 pub causes-earlier : (before mid now : ℕ) (turns : List Turn) → before ≤ mid → AllByRecursion (HasCauses mid now) turns → AllByRecursion (HasCauses before now) turns
-causes-earlier before mid now [] le all = tt
-causes-earlier before mid now (t ∷ turns) le all = (λ e. let rose = all.0 e in omega (arith, rose, le), causes-earlier before mid now turns le all.1)
+causes-earlier before mid now turns le all = each-weaker (HasCauses mid now) (HasCauses before now) (λ turn h e. rose-back before mid now le (h e)) turns all
 
 causes-more : (faults mid now : ℕ) (turns : List Turn) (turn : Turn) → mid ≤ now → AllByRecursion (HasCauses faults mid) turns → HasCauses faults now turn → AllByRecursion (HasCauses faults now) (turns ++ turn ∷ [])
-causes-more faults mid now [] turn later all more = (more, tt)
-causes-more faults mid now (t ∷ turns) turn later all more = (cause-later faults mid now t later all.0, causes-more faults mid now turns turn later all.1 more)
+causes-more faults mid now turns turn later all more = each-push (HasCauses faults now) turns turn (causes-later faults mid now turns later all) more
 
 -- a line to which the machine executes nothing
 talked-silent : {E : Type 0} (config : Config) (old : Machine) (lines : List (List ℕ)) (stands stands_now : Machine → Type 0) (content : List ℕ) (faults : ℕ) (flash flash_now : FlashState) (told told_mid told_now : Option (List ℕ)) (line : List ℕ) →

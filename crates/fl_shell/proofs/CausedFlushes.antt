@@ -3,6 +3,7 @@ use Rattle.std.proofs.Common.{◌≡◌, ℕ, ◌+◌, ◌<◌, ◌≤◌, Bool,
 use Rattle.std.specs.Prelude.{◌&&◌, if◌then◌else◌}
 use Rattle.std.specs.List.{slice_get}
 use Rattle.std.proofs.lemmas.List.{map-append}
+use Rattle.std.proofs.Math.Bool.{and-true, and_assoc}
 use Rattle.fl_model.specs.Record.{Plan}
 use Rattle.fl_session.specs.Caused.{State}
 use Rattle.fl_shell.specs.Caused.{CausesFlush, CausesFlushes, PendingAre, PendingIs}
@@ -26,14 +27,6 @@ pub pending-more : (s : State) (all : List (List ℕ)) (name : List ℕ) (rows o
 pending-more s [] name rows one h is = (one, 0, is, refl, omega (arith, h))
 pending-more s (first ∷ all) name rows one h is = (h.0, h.1 + one, h.2, pending-more s all name h.1 one h.3 is, omega (arith, h.4))
 
-and-right : (x : Bool) → (x && true) ≡ x
-and-right true = refl
-and-right false = refl
-
-and-assoc : (a b c : Bool) → ((a && b) && c) ≡ (a && (b && c))
-and-assoc true b c = refl
-and-assoc false b c = refl
-
 -- .. and one more is flushed
 pub flushes-more : (all : List (List ℕ)) (name : List ℕ) (old mid new : State) (done one : Bool) → CausesFlushes all old mid done → CausesFlush mid new name one → CausesFlushes (all ++ name ∷ []) old new (done && one)
 flushes-more [] name old mid new done one h flush = (
@@ -42,7 +35,7 @@ flushes-more [] name old mid new done one h flush = (
   true,
   subst (λ s. CausesFlush s new name one) h.0 flush,
   (refl, refl),
-  ap (λ (b : Bool). b && one) h.1 ∙ sym (and-right one),
+  ap (λ (b : Bool). b && one) h.1 ∙ sym (and-true one),
 )
 flushes-more (first ∷ all) name old mid new done one h flush = (
   h.0,
@@ -50,7 +43,7 @@ flushes-more (first ∷ all) name old mid new done one h flush = (
   h.2 && one,
   h.3,
   flushes-more all name h.0 mid new h.2 one h.4 flush,
-  ap (λ (b : Bool). b && one) h.5 ∙ and-assoc h.1 h.2 one,
+  ap (λ (b : Bool). b && one) h.5 ∙ and_assoc h.1 h.2 one,
 )
 
 -- a flag that goes on while each is done

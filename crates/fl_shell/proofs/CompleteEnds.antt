@@ -1,6 +1,5 @@
 -- An input is answered to its end, where no count rises and there is a configuration.
-use Rattle.std.proofs.Common.{◌≡◌, ℕ, ◌+◌, ◌-◌, ◌^◌, ◌≤◌, min, inl, inr, IsTrue, Err, List, [], ◌∷◌, ◌++◌, length, refl, sym, ◌∙◌, ap, subst, arith}
-use Rattle.fl_base.specs.Causes.{Rose}
+use Rattle.std.proofs.Common.{◌≡◌, ℕ, ◌+◌, ◌-◌, ◌^◌, ◌≤◌, inl, inr, IsTrue, Err, List, [], ◌∷◌, ◌++◌, length, refl, sym, ◌∙◌, ap, subst, arith}
 use Rattle.fl_config.specs.Whole.{is_whole, Makes}
 use Rattle.fl_config.specs.declared.image.ImageRefusal.{ImageRefusal}
 use Rattle.fl_config.specs.declared.image.ImageRefusal.TheVariants.{Media, Other}
@@ -86,12 +85,6 @@ memory-write status is e = subst IsOfSession is (subst IsOfSession (sym e) tt)
 
 pub memory-make : (status : ShellStatus) → status ≡ NoMemory → status ≡ MediaMake → ⊥
 memory-make status is e = let odd : NoMemory ≡ MediaMake = sym is ∙ e in cc
-
--- a count that rose after others did
-pub rose-after : (before mid now : ℕ) → before ≤ mid → Rose mid now → Rose before now
-rose-after before mid now later rose =
-    let least : min (mid + 1) (2 ^ 64 - 1) ≤ now = rose in
-    omega (arith, later, least)
 
 pub opening-made : {A : Type 0} (refusal : ImageRefusal) (status : ShellStatus) → status ≡ opening_status refusal → IsOfSession status → A
 opening-made Media status is of = absurd (subst IsOfSession is of)

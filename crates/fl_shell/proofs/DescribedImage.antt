@@ -1,11 +1,12 @@
 -- What a shell tells of its image, line by line.
-use Rattle.std.proofs.Common.{◌≡◌, ◌⊎◌, ℕ, zero, suc, ◌+◌, ◌*◌, ◌<◌, ◌≤◌, Bool, true, false, cond, inl, inr, Option, Some, None, Result, Ok, Err, List, [], ◌∷◌, ◌++◌, length, take, refl, sym, ◌∙◌, ap, subst, append_assoc, append-nil, length-append, arith}
+use Rattle.std.proofs.Common.{◌≡◌, ◌⊎◌, ℕ, zero, suc, ◌+◌, ◌*◌, ◌<◌, ◌≤◌, Bool, true, false, cond, inl, inr, Option, Some, None, Result, Ok, Err, List, [], ◌∷◌, ◌++◌, length, take, refl, sym, ◌∙◌, ap, subst, append_assoc, append-nil, length-append, arith, pos_of_ne-zero}
 use Rattle.std.specs.Prelude.{IfSome, IsSomeAnd, nat_lt, slice_get}
 use Rattle.std.specs.List.{list_any}
 use Rattle.std.proofs.Math.Nat.{add-mul}
 use Rattle.std.proofs.lemmas.Bool.{lt-ltb}
 use Rattle.fl_base.specs.Causes.{Appends, AppendsFront, Rose}
 use Rattle.fl_base.specs.declared.types.RingPlace.{RingPlace}
+use Rattle.fl_base.proofs.Appended.{appends-append, front-behind, front-more}
 use Rattle.fl_flash.specs.Flash.{FlashState}
 use Rattle.fl_model.specs.Bare.{bare}
 use Rattle.fl_model.specs.Record.{Config, Plan}
@@ -14,13 +15,13 @@ use Rattle.fl_machine.specs.Machine.{Machine}
 use Rattle.fl_machine.specs.Step.{Located, located}
 use Rattle.fl_plan.specs.Plan.{IsConfigOf, IsRingAt, Label, blocks_in, label_of, plan_of_table, with_log}
 use Rattle.fl_plan.specs.declared.table_config.TableConfig.{TableConfig}
+use Rattle.fl_plan.proofs.RingPlaces.{ring-blocks}
 use Rattle.fl_rlc.specs.Rings.{rings_of}
 use Rattle.fl_rlc.specs.declared.rings.RingCounts.{RingCounts}
-use Rattle.fl_script.proofs.SinkPieces.{appends-append}
 use Rattle.fl_script.specs.Written.{Written}
 use Rattle.fl_script.specs.declared.reply.Reply as code
+use Rattle.fl_script.proofs.SinkPieces.{written-behind}
 use Rattle.fl_session.specs.Held.{TellsTable, TellsCounts, TellsRings, TellsLast}
-use Rattle.fl_store.proofs.Appends.{front-behind, front-more}
 use Rattle.fl_queries.specs.OldestBlob.{oldest_blob, FindsOldest}
 use Rattle.fl_session.specs.Oldest.{FindsOf, LooksFor}
 use Rattle.fl_table.specs.Look.{counts_of}
@@ -32,12 +33,6 @@ use Rattle.fl_shell.specs.Beside.{AddsBlobs, TellsBeside, WritesTable}
 use Rattle.fl_shell.specs.Talk.{beside_in, beside_of, blobs_text, counts_text, described, described_each, description, held_in, held_of, key_line, oldest_line, rings_text, sizes_text}
 use Rattle.fl_shell.specs.Turning.{Describes, Looked}
 use Rattle.fl_shell.proofs.LineAnswer.{looked-none}
-
--- ---- texts one behind another
-
-written-behind : {E : Type 0} (before mid now : Option (List ℕ)) (first second : List ℕ) (result : Result (Unit {0}) E) → Appends before mid first → Written mid now result second → Written before now result (first ++ second)
-written-behind before mid now first second (Ok done) one wrote = appends-append before mid now first second one wrote
-written-behind before mid now first second (Err failed) one wrote = front-behind before mid now first second one wrote
 
 -- ---- what a table holds
 
@@ -71,10 +66,6 @@ list-any-last [] true e = inr refl
 list-any-last [] false e = cc
 list-any-last (true ∷ unread) failed e = inl refl
 list-any-last (false ∷ unread) failed e = list-any-last unread failed e
-
-any-one : (failed : Bool) → list_any (λ u. u) (failed ∷ []) ≡ true → failed ≡ true
-any-one true e = refl
-any-one false e = cc
 
 -- nothing was read of a table
 pub looked-one : (config : Config) (m : Machine) (stands : Machine → Type 0) (flash : FlashState) → stands m → Looked config m (false ∷ []) stands flash flash
@@ -134,11 +125,7 @@ blobs-none config m plan table stands flash told here none = record {
 -- .. or it is told, by what was answered
 module _ (config : Config) (m : Machine) (plan : Plan) (name : List ℕ) (at : Located) (stands : Machine → Type 0) (flash flash_now : FlashState) (told told_now : List ℕ) (some : (plan.var_blocks ≡ 0 → ⊥)) (on : m.mounted ≡ true) (here : located config m name ≡ Some at) where
   has-blobs : (unread : Bool) → blobs_text unread plan at.table ≡ oldest_line unread (oldest_blob at.table)
-  has-blobs unread = ap (λ (b : Bool). cond b (oldest_line unread (oldest_blob at.table)) []) (lt-ltb 0 plan.var_blocks (by-blocks plan.var_blocks some))
-    where
-      by-blocks : (n : ℕ) → (n ≡ 0 → ⊥) → 0 < n
-      by-blocks zero h = absurd (h refl)
-      by-blocks (suc n) h = omega arith
+  has-blobs unread = ap (λ (b : Bool). cond b (oldest_line unread (oldest_blob at.table)) []) (lt-ltb 0 plan.var_blocks (pos_of_ne-zero some))
 
   pub blobs-told : (key : Option ℕ) → told_now ≡ told ++ oldest_line false key → LooksFor config m name stands flash flash_now (Ok key) → AddsBlobs config m plan at.table stands flash flash_now told told_now
   blobs-told key is looks =
@@ -195,11 +182,6 @@ figures-failed config m (Some plan) table stands flash line name figures told mi
       (subst (λ l. AppendsFront told told_now l) (sym (append_assoc (table_text plan) (sizes_text plan) (held_in config m plan plan.name)))
       (front-behind told mid told_now (table_text plan) (sizes_text plan ++ held_in config m plan plan.name) (subst (λ l. Appends told mid l) is wrote) (subst (λ l. AppendsFront mid told_now l) (own-figures config m plan table name figures named of held) wrote_now)));
 }
-
--- the blocks of the log
-ring-blocks : (place : Option RingPlace) (first blocks : ℕ) → IsRingAt place first blocks → blocks_in place ≡ blocks
-ring-blocks None first blocks h = sym h
-ring-blocks (Some place) first blocks h = h.1
 
 -- .. and what its other rings keep comes behind them
 pub table-written : {E : Type 0} (config : Config) (m : Machine) (o : Option Plan) (table : TableConfig) (log : Option RingPlace) (log_blocks : ℕ) (first : Plan → ℕ) (stands : Machine → Type 0) (flash flash_now : FlashState) (line name figures rings : List ℕ) (told mid behind told_now : Option (List ℕ)) (result : Result (Unit {0}) E) →

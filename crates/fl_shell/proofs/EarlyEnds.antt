@@ -2,6 +2,7 @@
 use Rattle.std.proofs.Common.{◌≡◌, ℕ, inl, inr, IsTrue, Option, Some, Ok, Err, List, [], ◌∷◌, length, take, refl, sym, ◌∙◌, ap, subst, ◌+◌, ◌-◌, ◌^◌, ◌≤◌, min, arith}
 use Rattle.std.specs.Prelude.{slice_get}
 use Rattle.fl_base.specs.Causes.{Appends, Rose}
+use Rattle.fl_base.proofs.Appended.{appends-none}
 use Rattle.fl_config.specs.Whole.{Makes}
 use Rattle.fl_config.specs.declared.image.ImageRefusal.{ImageRefusal}
 use Rattle.fl_config.specs.declared.image.ImageRefusal.TheVariants.{Media, Other}
@@ -17,7 +18,6 @@ use Rattle.fl_ends.specs.declared.shell.ShellStatus.{ShellStatus}
 use Rattle.fl_ends.specs.declared.shell.ShellStatus.TheVariants.{MediaMake, InputRead, OutWrite, Unconfigured, InputLong, NoMemory, NotImage}
 use Rattle.fl_session.specs.Ends.{Told, IsOther, IsUntouched, told_of}
 use Rattle.fl_session.specs.Opening.{MediaGoes, OpensAs}
-use Rattle.fl_session.proofs.NextCommand.{nothing-added}
 use Rattle.fl_session.proofs.Over.{foreign-other}
 use Rattle.fl_words.specs.Config.{Lines, whole}
 use Rattle.fl_words.specs.Grammar.{lines_of}
@@ -53,7 +53,7 @@ begins-on knots (byte ∷ bytes) all total begun config new left_now told told_n
   answers = [];
   begins = record { made = begun.config; makes = w; begins = inr (h.accepted, h.image, h.others, refl) };
   accepted = header-accepted knots begun.config config h.accepted w;
-  written = subst (λ t. Appends told t []) (sym h.silent) (nothing-added told);
+  written = subst (λ t. Appends told t []) (sym h.silent) (appends-none told);
 }
 
 -- ---- no image was opened
@@ -67,7 +67,7 @@ looks-goes old new looks = record { tells = looks.tells; faults = looks.later }
 
 -- nothing was done
 pub untouched : (old new : MediaState) (left told told_now : Option (List ℕ)) → new.content ≡ old.content → told_now ≡ told → IsUntouched (told_of old new left told told_now)
-untouched old new left told told_now same silent = record { content = same; written = subst (λ t. Appends told t []) (sym silent) (nothing-added told) }
+untouched old new left told told_now same silent = record { content = same; written = subst (λ t. Appends told t []) (sym silent) (appends-none told) }
 
 led-unbegun : (old new : MediaState) (left told told_now : Option (List ℕ)) (lines : List (List ℕ)) (made : Lines) → old.content ≡ [] → new.content ≡ old.content → Led lines made told told_now → Unbegun lines made (told_of old new left told told_now)
 led-unbegun old new left told told_now lines made empty same led = record { empty = empty; unmade = same ∙ empty; answers = led.answers; leads = led.leads; written = led.written }

@@ -2,13 +2,13 @@
 use Rattle.std.proofs.Common.{◌≡◌, ℕ, ◌≤◌, ◌<◌, Result, Ok, Err, refl, sym, ◌∙◌, subst, arith}
 use Rattle.std.specs.Prelude.{IfErr}
 use Rattle.fl_base.specs.Causes.{Rose}
+use Rattle.fl_base.proofs.Risen.{rose-back}
 use Rattle.fl_lines.specs.declared.lines.LinesFault.{LinesFault}
 use Rattle.fl_lines.specs.declared.lines.LinesFault.TheVariants.{Failed, Long}
 use Rattle.fl_ends.specs.declared.shell.ShellStatus.{ShellStatus}
 use Rattle.fl_ends.specs.declared.shell.ShellStatus.TheVariants.{Done, InputRead, OutWrite, InputLong, Unconfigured}
 use Rattle.fl_shell.specs.Statuses.{IsOfLines, IsOfTalk, reading_status}
 use Rattle.fl_shell.specs.declared.talk.Next.TheVariants.{InHand, Unread, Ended}
-use Rattle.fl_shell.proofs.CompleteEnds.{rose-after}
 
 pub ok-err : {A E : Type 0} (a : A) (e : E) → Ok a ≡ Err e → ⊥
 ok-err {A} {E} a e same = subst (λ (r : Result A E). IfErr r (λ x. ⊥)) same tt
@@ -27,7 +27,7 @@ reading-talk Failed = tt
 reading-talk Long = tt
 
 pub reading-rose : (fault : LinesFault) (status : ShellStatus) (before mid now : ℕ) → status ≡ reading_status fault → before ≤ mid → (fault ≡ Failed → Rose mid now) → status ≡ InputRead → Rose before now
-reading-rose Failed status before mid now is later failed e = rose-after before mid now later (failed refl)
+reading-rose Failed status before mid now is later failed e = rose-back before mid now later (failed refl)
 reading-rose Long status before mid now is later failed e = let odd : InputLong ≡ InputRead = sym is ∙ e in cc
 
 pub reading-write : (fault : LinesFault) (status : ShellStatus) → status ≡ reading_status fault → status ≡ OutWrite → ⊥

@@ -12,12 +12,12 @@ use Rattle.std.proofs.lemmas.List.Splits.{slice_split_at}
 use Rattle.fl_base.specs.Causes.{HasCause}
 use Rattle.fl_base.specs.declared.stream.SinkFailed.{SinkFailed}
 use Rattle.fl_flash.specs.Flash.{FlashState}
-use Rattle.fl_image.proofs.LineWords.{IsWord, all-append, all-weaker}
-use Rattle.fl_machine.proofs.LoggedSteps.{located-is}
+use Rattle.fl_image.proofs.LineWords.{IsWord}
+use Rattle.fl_machine.proofs.LoggedPuts.{located-is}
 use Rattle.fl_machine.specs.Machine.{Machine}
 use Rattle.fl_machine.specs.Small.{AreTables}
 use Rattle.fl_machine.specs.Step.{Counts, Located, Moment, Says, Step, StepOf, WithColumns, group_reply, located, no_column, records_of}
-use Rattle.fl_model.proofs.Lists.{slice_get-some, slice_get-short}
+use Rattle.fl_model.proofs.Lists.{slice_get-some, slice_get-short, length-filter-le, each-append, each-weaker, each-filter, each-at}
 use Rattle.fl_model.specs.Facts.{FitsPlan, IsTable}
 use Rattle.fl_model.specs.Operators.{aggregate}
 use Rattle.fl_model.specs.Query.{matches, selected}
@@ -25,7 +25,6 @@ use Rattle.fl_model.specs.Record.{Config, Plan, Record}
 use Rattle.fl_model.specs.Table.{Entry}
 use Rattle.fl_script.specs.Written.{Written}
 use Rattle.fl_queries.specs.Keys.{all_keys}
-use Rattle.fl_queries.proofs.Few.{length-filter}
 use Rattle.fl_session.specs.Execute.{Executes}
 use Rattle.fl_words.specs.Grammar.{words_in}
 use Rattle.fl_words.specs.Reply as reply
@@ -36,7 +35,7 @@ use Rattle.fl_shell.specs.Refusal.{line_of}
 use Rattle.fl_shell.specs.Talk.{first_text, groups_of}
 use Rattle.fl_shell.specs.Turning.{TellsFirst}
 use Rattle.fl_shell.proofs.TableFlushes.{heard-all, heard-over, unsaid}
-use Rattle.fl_shell.proofs.GroupLines.{AreHalves, all-filter, all-groups, begins-short, replies-short}
+use Rattle.fl_shell.proofs.GroupLines.{AreHalves, all-groups, begins-short, replies-short}
 
 -- ---- the rows of a table
 
@@ -60,16 +59,10 @@ entries-few : (entries : List Entry) → Ascend entries → AllByRecursion (λ (
 entries-few [] up all = omega arith
 entries-few (entry ∷ entries) up all =
     let last = slice_get-some (entry ∷ entries) (length entries) (omega arith) in
-    omega (arith, key-above (entry ∷ entries) up (length entries) last.0 last.1, key-at (entry ∷ entries) (length entries) last.0 all last.1)
-  where
-    key-at : (entries : List Entry) (i : ℕ) (a : Entry) → AllByRecursion (λ (entry : Entry). entry.kept.key < 2 ^ 64) entries → slice_get entries i ≡ Some a → a.kept.key < 2 ^ 64
-    key-at [] i a all e = cc
-    key-at (x ∷ xs) zero a all e = let same : x ≡ a = cc in subst (λ (x : Entry). x.kept.key < 2 ^ 64) same all.0
-    key-at (x ∷ xs) (suc i) a all e = key-at xs i a all.1 e
+    omega (arith, key-above (entry ∷ entries) up (length entries) last.0 last.1, each-at (λ (entry : Entry). entry.kept.key < 2 ^ 64) (entry ∷ entries) (length entries) last.0 all last.1)
 
 keys-within : (plan : Plan) (entries : List Entry) → plan.key_bytes ≤ 8 → AllByRecursion (FitsPlan plan) entries → AllByRecursion (λ (entry : Entry). entry.kept.key < 2 ^ 64) entries
-keys-within plan [] le all = tt
-keys-within plan (entry ∷ entries) le all = (key-within plan entry le all.0, keys-within plan entries le all.1)
+keys-within plan entries le all = each-weaker (FitsPlan plan) (λ (entry : Entry). entry.kept.key < 2 ^ 64) (λ entry fit. key-within plan entry le fit) entries all
 
 kept-within : (width : ℕ) (entries : List Entry) → 2 ^ 64 - 1 ≤ width → AllByRecursion (λ (entry : Entry). entry.kept.key < 2 ^ 64) entries →
     AllByRecursion (λ (item : Record). item.key < 2 ^ 64) (map (λ entry. entry.kept) entries) × AreHalves width (map (λ entry. entry.kept) entries)
@@ -88,10 +81,10 @@ counts-short old new moment at table le counts =
     let entries = at.table.entries in
     let keys = keys-within at.plan entries le table.fit in
     let some = selected all_keys None entries in
-    let within = kept-within (2 ^ 64 - 1) some (omega arith) (all-filter (λ (entry : Entry). entry.kept.key < 2 ^ 64) (λ entry. matches all_keys None entry.kept) entries keys) in
+    let within = kept-within (2 ^ 64 - 1) some (omega arith) (each-filter (λ (entry : Entry). entry.kept.key < 2 ^ 64) (λ entry. matches all_keys None entry.kept) entries keys) in
     let items = map (λ (entry : Entry). entry.kept) some in
     let fewer : length items ≤ 2 ^ 64 =
-    omega (arith, entries-few entries table.ascending keys, length-map some (λ (entry : Entry). entry.kept), length-filter (λ (entry : Entry). matches all_keys None entry.kept) entries) in
+    omega (arith, entries-few entries table.ascending keys, length-map some (λ (entry : Entry). entry.kept), length-filter-le (λ (entry : Entry). matches all_keys None entry.kept) entries) in
     let groups = all-groups (2 ^ 64 - 1) items fewer within.0 within.1 in
     (replies-short moment.rose (aggregate 0 (2 ^ 64 - 1) items) moment.replies groups.0 groups.1 counts.2, begins-short moment.rose (aggregate 0 (2 ^ 64 - 1) items) moment.replies groups.0 counts.2)
 
@@ -125,12 +118,12 @@ first-replies config old moment name tables fit is step = by_mounted old.mounted
 
 digits-word : (n : ℕ) → n < 10 ^ 20 → IsWord (decimal n)
 digits-word n lt = decimal_by_steps_wide (λ n ds. IsWord ds) (λ n lt. record { some = omega arith; visible = (omega arith, tt) })
-    (λ n ds le h. record { some = omega (arith, h.some, length-append ds ((48 + n % 10) ∷ [])); visible = all-append (λ byte. 32 < byte) ds ((48 + n % 10) ∷ []) h.visible (omega arith, tt) }) n (omega (arith, lt))
+    (λ n ds le h. record { some = omega (arith, h.some, length-append ds ((48 + n % 10) ∷ [])); visible = each-append (λ byte. 32 < byte) ds ((48 + n % 10) ∷ []) h.visible (omega arith, tt) }) n (omega (arith, lt))
 
 word-next : (word rest : List ℕ) → IsWord word → words_in (word ++ 32 ∷ rest) ≡ word ∷ words_in rest
 word-next word rest h =
     let some : nat_lt 0 (length word) ≡ true = grind (arith, nat_tests, h.some) in
-    let none = All-from_recursion (λ byte. eqb byte 32 ≡ false) word (all-weaker (λ byte. 32 < byte) (λ byte. eqb byte 32 ≡ false) (λ byte lt. grind (arith, nat_tests, lt)) word h.visible) in
+    let none = All-from_recursion (λ byte. eqb byte 32 ≡ false) word (each-weaker (λ byte. 32 < byte) (λ byte. eqb byte 32 ≡ false) (λ byte lt. grind (arith, nat_tests, lt)) word h.visible) in
     ap (filter (λ word. nat_lt 0 (length word))) (slice_split_at (λ byte. eqb byte 32) word 32 rest none refl)
     ∙ ap (λ t. cond t (word ∷ words_in rest) (words_in rest)) some
 
@@ -165,17 +158,6 @@ pub word-none : (rest : List ℕ) (place : ℕ) (found : Option (List ℕ)) → 
 word-none rest place found h is = h ∙ ap (λ ws. slice_get ws place) is
 
 -- ---- by how the replies begin
-
-pub ends-first : (said : List Reply) → starts_with eqb (texts said) (codes "end ") ≡ true → first_text said ≡ text reply.Absent
-ends-first [] e = cc
-ends-first (reply.EndCount count ∷ said) e = refl
-ends-first (r ∷ said) e = cc
-
-pub neither-first : (said : List Reply) → starts_with eqb (texts said) (codes "end ") ≡ false → starts_with eqb (texts said) (codes "group ") ≡ false → first_text said ≡ texts said
-neither-first [] e g = refl
-neither-first (reply.EndCount count ∷ said) e g = cc
-neither-first (reply.Group group count least greatest sum mean ∷ said) e g = cc
-neither-first (r ∷ said) e g = refl
 
 -- the sixth word of a group is its least key
 group-is : (group count : ℕ) (least greatest sum mean : ℤ) (said : List Reply) (found : Option (List ℕ)) → group < 10 ^ 20 → count < 10 ^ 20 → IsBelow (10 ^ 20) least →

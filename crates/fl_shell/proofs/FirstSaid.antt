@@ -15,9 +15,6 @@ module _ (said : List ℕ) (not : starts_with eqb said (codes "end ") ≡ false)
   behind : first_said said ≡ (if starts_with eqb said (codes "group ") then unwrap_or (option_map line_of (slice_get (words_in said) 5)) said else said)
   behind = ap (λ (b : Bool). if b then text reply.Absent else if starts_with eqb said (codes "group ") then unwrap_or (option_map line_of (slice_get (words_in said) 5)) said else said) not
 
-  pub said-other : starts_with eqb said (codes "group ") ≡ false → first_said said ≡ said
-  said-other none = behind ∙ ap (λ (b : Bool). if b then unwrap_or (option_map line_of (slice_get (words_in said) 5)) said else said) none
-
   grouped : starts_with eqb said (codes "group ") ≡ true → first_said said ≡ unwrap_or (option_map line_of (slice_get (words_in said) 5)) said
   grouped begins = behind ∙ ap (λ (b : Bool). if b then unwrap_or (option_map line_of (slice_get (words_in said) 5)) said else said) begins
 

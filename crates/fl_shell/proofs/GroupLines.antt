@@ -11,22 +11,14 @@ use Rattle.std.proofs.lemmas.Grind.{flat_map-append}
 use Rattle.std.proofs.lemmas.List.{length-map, take_all}
 use Rattle.fl_model.specs.Operators.{Group, aggregate, column_of, group_from, group_numbers, group_of, group_values}
 use Rattle.fl_model.specs.Record.{Record}
+use Rattle.fl_model.proofs.Lists.{length-filter-le, each-filter}
 use Rattle.fl_words.specs.Reply as reply
 use Rattle.fl_words.specs.Reply.{Reply, text, texts}
 use Rattle.fl_machine.specs.Step.{Lists, group_reply}
-use Rattle.fl_queries.proofs.Few.{length-filter}
 use Rattle.fl_queries.proofs.GroupLines.{filter_map-fewer}
 use Rattle.fl_shell.specs.FirstKey.{BeginsShort, IsBelow}
 
 -- ---- two groups at most
-
-pub all-filter : {X : Type 0} (P : X → Type 0) (p : X → Bool) (xs : List X) → AllByRecursion P xs → AllByRecursion P (filter p xs)
-all-filter P p [] all = tt
-all-filter {X} P p (x ∷ xs) all = by_test (p x) (all-filter P p xs all.1)
-  where
-    by_test : (b : Bool) → AllByRecursion P (filter p xs) → AllByRecursion P (cond b (x ∷ filter p xs) (filter p xs))
-    by_test true h = (all.0, h)
-    by_test false h = h
 
 -- of the numbers 0 and 1 none is another one than both
 others-none : (a b : ℕ) → a ≤ 1 → b ≤ 1 → eqb b a ≡ false → (ns : List ℕ) → AllByRecursion (λ n. n ≤ 1) ns → filter (λ n. not (n == a)) (filter (λ n. not (n == b)) ns) ≡ []
@@ -45,7 +37,7 @@ AreHalves width items = AllByRecursion (λ (item : Record). item.key / width ≤
 
 numbers-halves : (width : ℕ) (items : List Record) → AreHalves width items → AllByRecursion (λ n. n ≤ 1) (group_numbers width items)
 numbers-halves width [] all = tt
-numbers-halves width (item ∷ items) all = (all.0, all-filter (λ n. n ≤ 1) (λ n. not (n == item.key / width)) (group_numbers width items) (numbers-halves width items all.1))
+numbers-halves width (item ∷ items) all = (all.0, each-filter (λ n. n ≤ 1) (λ n. not (n == item.key / width)) (group_numbers width items) (numbers-halves width items all.1))
 
 one-other : (width : ℕ) (items : List Record) (g : ℕ) → g ≤ 1 → AreHalves width items → length (filter (λ n. not (n == g)) (group_numbers width items)) ≤ 1
 one-other width [] g lg all = omega arith
@@ -55,7 +47,7 @@ one-other width (item ∷ items) g lg all = by_test (eqb (item.key / width) g) r
     ns = filter (λ n. not (n == item.key / width)) (group_numbers width items)
 
     by_test : (t : Bool) → eqb (item.key / width) g ≡ t → length ns ≤ 1 → length (filter (λ n. not (n == g)) (group_numbers width (item ∷ items))) ≤ 1
-    by_test true e rest = rw e (omega (arith, length-filter (λ n. not (n == g)) ns, rest))
+    by_test true e rest = rw e (omega (arith, length-filter-le (λ n. not (n == g)) ns, rest))
     by_test false e rest =
         let none = others-none g (item.key / width) lg all.0 e (group_numbers width items) (numbers-halves width items all.1) in
         rw (e, none) (omega arith)
@@ -124,7 +116,7 @@ short-of group first others lt few all =
 
 values-fewer : (group width : ℕ) (items : List Record) → length (group_values 0 width group items) ≤ length items
 values-fewer group width items =
-    omega (arith, length-map (filter (λ item. item.key / width == group) items) (λ item. column_of item 0), length-filter (λ (item : Record). item.key / width == group) items)
+    omega (arith, length-map (filter (λ item. item.key / width == group) items) (λ item. column_of item 0), length-filter-le (λ (item : Record). item.key / width == group) items)
 
 groups-short : (width : ℕ) (items : List Record) (ns : List ℕ) → length items ≤ 2 ^ 64 → AllByRecursion (λ (item : Record). item.key < 2 ^ 64) items → AllByRecursion (λ n. n ≤ 1) ns →
     AllByRecursion IsShortGroup (filter_map (λ group. group_from group (group_values 0 width group items)) ns)

@@ -1,5 +1,5 @@
 -- The configuration of a medium that isn't empty is that of its header.
-use Rattle.std.proofs.Common.{◌≡◌, ℕ, ◌^◌, Bool, inl, inr, IsTrue, Option, Some, Result, Ok, Err, List, [], ◌∷◌, length, refl, sym, ◌∙◌, ap, arith}
+use Rattle.std.proofs.Common.{◌≡◌, ℕ, ◌^◌, Bool, inl, inr, IsTrue, Option, Some, Result, Ok, Err, List, [], ◌∷◌, length, refl, sym, ◌∙◌, ap}
 use Rattle.std.specs.Prelude.{IfErr, IfOk, ◌⊎◌}
 use Rattle.fl_base.specs.Causes.{Rose}
 use Rattle.fl_image.specs.Header.{IsAccepted}
@@ -34,10 +34,6 @@ header-causes status ends before now is (inl e) rose = inl (is ∙ ap header_sta
 header-causes status ends before now is (inr e) rose = inr (is ∙ ap header_status e, rose e)
 
 -- ---- the configuration
-
-pub empty-at : (content : List ℕ) (n : ℕ) → n ≡ length content → n ≡ 0 → content ≡ []
-empty-at [] n e none = refl
-empty-at (byte ∷ bytes) n e none = absurd (omega (arith, e, none))
 
 pub some-at : (content : List ℕ) (n : ℕ) → n ≡ length content → (n ≡ 0 → ⊥) → content ≡ [] → ⊥
 some-at content n e some none = some (e ∙ ap length none)

@@ -2,6 +2,7 @@
 use Rattle.std.specs.Prelude.{IsSomeAnd}
 use Rattle.std.proofs.Common.{Bor, ◌≡◌, ℕ, ◌^◌, ◌<◌, Bool, true, false, inl, inr, IsTrue, Option, Some, None, Result, Ok, Err, List, [], ◌∷◌, ◌++◌, length, refl, sym, ◌∙◌, ap, subst, append_assoc, append-nil, length-append, arith}
 use Rattle.fl_base.specs.Causes.{Appends, HasCause}
+use Rattle.fl_base.proofs.Appended.{appends-append, appends-none}
 use Rattle.fl_config.specs.Whole.{is_whole}
 use Rattle.fl_lines.specs.Stream.{LinesState}
 use Rattle.fl_lines.specs.declared.lines.LinesFault.{LinesFault}
@@ -12,12 +13,11 @@ use Rattle.fl_reason.specs.declared.config.ConfigReason.{ConfigReason}
 use Rattle.fl_words.specs.Command.{Command}
 use Rattle.fl_words.specs.Config.{ConfigFault, Lines, configured, no_lines}
 use Rattle.fl_words.specs.Grammar.{LineFault, command_of, lines_of}
+use Rattle.fl_words.proofs.Lines.{too_long-command}
 use Rattle.fl_script.specs.CommandView.{command_view}
 use Rattle.fl_script.specs.Written.{Written}
 use Rattle.fl_script.specs.declared.command.Command as script
-use Rattle.fl_script.proofs.SinkPieces.{appends-append}
 use Rattle.fl_ends.specs.declared.shell.ShellStatus.TheVariants.{OutWrite, Unconfigured}
-use Rattle.fl_session.proofs.NextCommand.{nothing-added}
 use Rattle.fl_shell.specs.Begin.{Step, Ends, Refuses, IsEnded, Leads, LeadsBy, LeadsTo, step_asked, step_command, step_config, step_of, step_own}
 use Rattle.fl_shell.specs.Leading.{LeadsAs, LeavesOn, Led, TakesBy, going_on}
 use Rattle.fl_shell.specs.OwnView.{own_view}
@@ -29,7 +29,7 @@ use Rattle.fl_shell.specs.declared.begin.Begun.{Begun}
 use Rattle.fl_shell.specs.declared.begin.Step as begin
 use Rattle.fl_shell.specs.declared.own.Own as code
 use Rattle.fl_shell.specs.declared.talk.Next.TheVariants.{InHand, Ended}
-use Rattle.fl_shell.proofs.LongLines.{long-own, long-read}
+use Rattle.fl_shell.proofs.LongLines.{long-own}
 
 -- one line more
 leads-more : (before mid after : Lines) (lines : List (List ℕ)) (answers line answer : List ℕ) → Leads before lines answers mid → LeadsTo mid (step_of mid line) answer after → Leads before (lines ++ line ∷ []) (answers ++ answer) after
@@ -39,7 +39,7 @@ leads-more before mid after (l ∷ lines) answers line answer h more =
     (h.0, h.1 ++ answer, h.2, ap (λ a. a ++ answer) h.3 ∙ append_assoc h.0 h.1 answer, h.4, leads-more h.2 mid after lines h.1 line answer h.5 more)
 
 long-step : (made : Lines) (line : List ℕ) → 4096 < length line → step_of made line ≡ Refuses
-long-step made line long = ap (λ o. step_own made o line) (long-own line long) ∙ ap (step_command made) (long-read line long)
+long-step made line long = ap (λ o. step_own made o line) (long-own line long) ∙ ap (step_command made) (too_long-command line long)
 
 -- a line goes on as it was given
 step-same : (made : Lines) (line given : List ℕ) → IsGivenAs line given → step_of made given ≡ step_of made line
@@ -59,7 +59,7 @@ adds-refused {E} lines new c reason told told_now result takes refused = by_faul
 
 -- .. or taken
 adds-taken : (E : Type 0) (lines new : Lines) (c : Command) (told : Option (List ℕ)) → TakesOr lines c None new → LeadsBy {E = E} lines (step_config (configured lines c)) new told told (Ok tt)
-adds-taken E lines new c told takes = subst (λ r. LeadsBy {E = E} lines (step_config r) new told told (Ok tt)) (sym takes) ([], (refl, refl), nothing-added told)
+adds-taken E lines new c told takes = subst (λ r. LeadsBy {E = E} lines (step_config r) new told told (Ok tt)) (sym takes) ([], (refl, refl), appends-none told)
 
 pub adds : (E : Type 0) (lines new : Lines) (c : Command) (o : Option ConfigReason) (told : Option (List ℕ)) → o ≡ None → TakesOr lines c o new → LeadsBy {E = E} lines (step_config (configured lines c)) new told told (Ok tt)
 adds E lines new c o told none takes = adds-taken E lines new c told (subst (λ x. TakesOr lines c x new) none takes)
@@ -100,7 +100,7 @@ misformed-step {E} made own told told_now result is refused = subst (λ o. Leads
 -- ---- by the command
 
 pub nothing-step : (E : Type 0) (made : Lines) (c : script.Command) (room : List ℕ) (told : Option (List ℕ)) → c ≡ script.TheVariants.Nothing → LeadsBy {E = E} made (step_command made (Ok (command_view c room))) made told told (Ok tt)
-nothing-step E made c room told is = subst (λ x. LeadsBy {E = E} made (step_command made (Ok (command_view x room))) made told told (Ok tt)) (sym is) ([], (refl, refl), nothing-added told)
+nothing-step E made c room told is = subst (λ x. LeadsBy {E = E} made (step_command made (Ok (command_view x room))) made told told (Ok tt)) (sym is) ([], (refl, refl), appends-none told)
 
 pub device-step : {page block : ℕ} (made : Lines) (c : script.Command) (room : List ℕ) → c ≡ script.TheVariants.Device page block → step_config (configured made (command_view c room)) ≡ step_command made (Ok (command_view c room))
 device-step made c room is = subst (λ x. step_config (configured made (command_view x room)) ≡ step_command made (Ok (command_view x room))) (sym is) refl
@@ -145,7 +145,7 @@ pub record LedToLine (all : List (List ℕ)) (total : ℕ) (made : Lines) (state
 
 pub led-first : (total : ℕ) (state : LinesState) (left_now told : Option (List ℕ)) (left : List ℕ) → left_now ≡ Some left → IsLeft state left (2 ^ 44) total → LedSoFar (lines_of (rest_in state left)) total no_lines state left_now told told
 led-first total state left_now told left is within =
-    record { given = []; rest = left; rest_told = is; within = within; order = refl; led = record { answers = []; leads = (refl, refl); written = nothing-added told } }
+    record { given = []; rest = left; rest_told = is; within = within; order = refl; led = record { answers = []; leads = (refl, refl); written = appends-none told } }
 
 pub led-next : (all : List (List ℕ)) (total : ℕ) (made : Lines) (state new : LinesState) (left left_now told told_now : Option (List ℕ)) (source source_now : ℕ) → LedSoFar all total made state left told told_now → AsksNext state left source (Ok true) new left_now source_now →
     LedToLine all total made new left_now told told_now

@@ -1,7 +1,6 @@
 pub mod Ran
 pub mod LongLines
 pub mod AnsweredLines
-pub mod ToldOfTable
 pub mod AlikeFlushes
 pub mod TableFlushes
 pub mod LineAnswer

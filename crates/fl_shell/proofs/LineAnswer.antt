@@ -13,6 +13,7 @@ use Rattle.fl_machine.specs.Machine.{Machine}
 use Rattle.fl_machine.specs.Reads.{OnColumns, none_read}
 use Rattle.fl_machine.specs.Script.{runs, runs_read, runs_command}
 use Rattle.fl_machine.specs.Step.{Located, Moment, no_column}
+use Rattle.fl_machine.proofs.Costs.{on-table-weaker}
 use Rattle.fl_reason.specs.Reason.{Explains, configures}
 use Rattle.fl_reason.specs.declared.line.LineReason.{LineReason}
 use Rattle.fl_reason.specs.declared.line.LineReason.TheVariants.{TooLong, Unknown, Form, Number, Late}
@@ -20,7 +21,6 @@ use Rattle.fl_script.specs.Written.{Written}
 use Rattle.fl_session.specs.Cost.{ReadsAsStated, ReadsScan}
 use Rattle.fl_session.specs.Execute.{Executes}
 use Rattle.fl_queries.specs.Keys.{all_keys}
-use Rattle.fl_session.proofs.NextCommand.{on-table-weaker}
 use Rattle.fl_shell.specs.Own.{Own, Describe, First, own_of}
 use Rattle.fl_shell.specs.Refusal.{Refuses}
 use Rattle.fl_shell.specs.Talk.{AnswersAs, AnswersRun, Turn, description, first_text, groups_of}

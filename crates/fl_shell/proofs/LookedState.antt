@@ -1,11 +1,10 @@
 -- A session's memory and flash are only looked at, and something is written.
 use Rattle.std.proofs.Common.{◌≡◌, inl, inr, ℕ, Option, Result, Ok, Err, List, ◌++◌, refl, sym, ◌∙◌, subst}
+use Rattle.fl_base.proofs.Appended.{appends-append, front-behind}
 use Rattle.fl_frame.proofs.ContentsInTurn.{OnlyReads-same, OnlyReads-then}
 use Rattle.fl_script.specs.declared.reply.Reply.{Reply}
-use Rattle.fl_script.proofs.SinkPieces.{appends-append}
 use Rattle.fl_session.specs.Caused.{OnlyLooks, State}
 use Rattle.fl_session.specs.Told.{OldestSays}
-use Rattle.fl_store.proofs.Appends.{front-behind}
 use Rattle.fl_shell.specs.Caused.{WritesSome}
 
 pub looks-same : (s : State) → OnlyLooks s s s.notes

@@ -1,9 +1,8 @@
 -- The next line of an input, behind what is left of a line that is too long.
-use Rattle.std.proofs.Common.{◌≡◌, ℕ, ◌+◌, ◌<◌, Bool, true, false, inl, inr, nat_lt, Option, Some, Ok, Err, List, [], ◌∷◌, ◌++◌, length, refl, sym, ◌∙◌, ap, length-append, arith}
+use Rattle.std.proofs.Common.{◌≡◌, ℕ, ◌+◌, ◌<◌, Bool, true, false, inl, inr, nat_lt, Option, Some, Ok, List, [], ◌∷◌, ◌++◌, length, refl, sym, ◌∙◌, ap, length-append, arith}
 use Rattle.std.specs.Prelude.{if◌then◌else◌}
 use Rattle.std.proofs.lemmas.Bool.{ltb-true, ltb-false}
 use Rattle.fl_lines.specs.Stream.{LinesState, Advances, Gives, LeavesRest, IsOneLine}
-use Rattle.fl_lines.specs.declared.lines.LinesFault.TheVariants.{Failed, Long}
 use Rattle.fl_lines.proofs.Parts.{lines-line, lines-rest}
 use Rattle.fl_words.specs.Grammar.{lines_of}
 use Rattle.fl_shell.specs.Reading.{IsLeft, behind_newline, rest_in, GivesNext}
@@ -129,35 +128,3 @@ gives-line old mid new left most total left_mid left_now faults faults_now h a b
             ),
           ),
         )
-
--- no line is left
-pub gives-none : (old mid new : LinesState) (left : List ℕ) (most total : ℕ) (is_rest : Bool) (left_mid left_now : Option (List ℕ)) (faults faults_now : ℕ) → LeftOver old left most total is_rest mid left_mid → Advances mid left_mid faults (Ok false) new left_now faults_now →
-    (l_now : List ℕ) × (left_now ≡ Some l_now) × GivesNext old left most total (Ok false) new l_now
-gives-none old mid new left most total is_rest left_mid left_now faults faults_now h a =
-    let g = a.gives h.rest h.told h.within.ended in
-    (g.0, g.1, (ap lines_of (h.is ∙ ap (from_rest is_rest) g.2) ∙ nothing is_rest, g.3))
-  where
-    nothing : (b : Bool) → lines_of (from_rest b []) ≡ []
-    nothing true = refl
-    nothing false = refl
-
--- the text is too long
-pub gives-long : (old mid new : LinesState) (left : List ℕ) (most total : ℕ) (is_rest : Bool) (left_mid left_now : Option (List ℕ)) (faults faults_now : ℕ) → LeftOver old left most total is_rest mid left_mid → Advances mid left_mid faults (Err Long) new left_now faults_now →
-    (l_now : List ℕ) × (left_now ≡ Some l_now) × GivesNext old left most total (Err Long) new l_now
-gives-long old mid new left most total is_rest left_mid left_now faults faults_now h a =
-    let g = a.gives h.rest h.told h.within.ended in
-    let part = g.2.1 in
-    (g.0, g.1, omega (arith, h.within.counted part.open_before, ap length part.split, length-append new.ahead g.2.0, g.2.2, g.2.3))
-
-pub gives-failed : (old mid new : LinesState) (left : List ℕ) (most total : ℕ) (is_rest : Bool) (left_mid left_now : Option (List ℕ)) (faults faults_now : ℕ) → LeftOver old left most total is_rest mid left_mid → Advances mid left_mid faults (Err Failed) new left_now faults_now →
-    (l_now : List ℕ) × (left_now ≡ Some l_now) × GivesNext old left most total (Err Failed) new l_now
-gives-failed old mid new left most total is_rest left_mid left_now faults faults_now h a = let g = a.gives h.rest h.told h.within.ended in (g.0, g.1, tt)
-
--- before any line is asked for
-pub left-first : (old : LinesState) (left : List ℕ) (most total : ℕ) (left_now : Option (List ℕ)) (is_rest : Bool) → is_rest ≡ nat_lt 4096 (length old.line) → left_now ≡ Some left → IsLeft old left most total → LeftOver old left most total is_rest old left_now
-left-first old left most total left_now is_rest is told within = record {
-  rest = left;
-  told = told;
-  within = within;
-  is = ap (λ (b : Bool). from_rest b (old.ahead ++ left)) (sym is);
-}

@@ -22,8 +22,9 @@ use Rattle.fl_session.specs.Execute.{Executes, IsReady, StandsAlike}
 use Rattle.fl_shell.specs.Flushing.{FlushesOne, FlushesBehind}
 use Rattle.fl_shell.specs.Heard.{Kept, IsFullOnFault}
 use Rattle.fl_shell.specs.Talk.{IsDone, RanOver, flush_of, pending_rows, flushes_of, FlushesAll}
-use Rattle.fl_config.proofs.Names.{bytes_equal-same}
 use Rattle.fl_model.specs.Record.{bytes_equal}
+use Rattle.fl_model.proofs.Lists.{each-push, each-front, each-back}
+use Rattle.fl_model.proofs.Names.{bytes_equal-same}
 use Rattle.fl_shell.proofs.AlikeFlushes.{flush-goes_on, pending-stands}
 
 -- ---- a reply that is kept
@@ -110,18 +111,6 @@ pub flushed-none : (config : Config) (old : Machine) (moments : List Moment) (st
 flushed-none config old moments stands content content_now faults faults_now h =
     record { flushes = []; commands_are = refl; is_done = λ e. tt; is_undone = λ e. cc; ran = none-flushed config old moments stands content content_now faults faults_now h; unread = tt }
 
-all-more : (P : Moment → Type 0) (flushes : List Moment) (moment : Moment) → AllByRecursion P flushes → P moment → AllByRecursion P (flushes ++ moment ∷ [])
-all-more P [] moment all one = (one, tt)
-all-more P (m ∷ flushes) moment all one = (all.0, all-more P flushes moment all.1 one)
-
-all-before : (flushes : List Moment) (moment : Moment) → AllByRecursion IsDone (flushes ++ moment ∷ []) → AllByRecursion IsDone flushes
-all-before [] moment all = tt
-all-before (m ∷ flushes) moment all = (all.0, all-before flushes moment all.1)
-
-all-last : (flushes : List Moment) (moment : Moment) → AllByRecursion IsDone (flushes ++ moment ∷ []) → IsDone moment
-all-last [] moment all = all.0
-all-last (m ∷ flushes) moment all = all-last flushes moment all.1
-
 both-done : (a b : Bool) → (if a then b else false) ≡ true → (a ≡ true) × (b ≡ true)
 both-done true true e = (refl, refl)
 both-done true false e = cc
@@ -139,10 +128,10 @@ flushed-more config old moments commands name stands stands_now content faults f
     record {
       flushes = h.flushes ++ g.0 ∷ [];
       commands_are = map-append (λ (m : Moment). m.command) h.flushes (g.0 ∷ []) ∙ (ap (λ cs. cs ++ g.0.command ∷ []) h.commands_are ∙ ap (λ c. commands ++ c ∷ []) g.1);
-      is_done = λ e. let b = both-done done one e in all-more IsDone h.flushes g.0 (h.is_done b.0) (g.2 b.1);
-      is_undone = λ e all. elim (one-undone done one e) [ inl a ↦ h.is_undone a (all-before h.flushes g.0 all) | inr b ↦ g.3 b (all-last h.flushes g.0 all) ];
+      is_done = λ e. let b = both-done done one e in each-push IsDone h.flushes g.0 (h.is_done b.0) (g.2 b.1);
+      is_undone = λ e all. elim (one-undone done one e) [ inl a ↦ h.is_undone a (each-front IsDone h.flushes (g.0 ∷ []) all) | inr b ↦ g.3 b (each-back IsDone h.flushes (g.0 ∷ []) all).0 ];
       ran = subst (λ ms. RanOver config old ms (StandsAlike stands_now) content flash_now.media.content faults flash_now.media.faults) (append_assoc moments h.flushes (g.0 ∷ [])) g.5;
-      unread = all-more none_read h.flushes g.0 h.unread g.4;
+      unread = each-push none_read h.flushes g.0 h.unread g.4;
     }
 
 -- one table more

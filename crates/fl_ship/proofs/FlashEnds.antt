@@ -3,9 +3,10 @@ use Rattle.std.proofs.Common.{◌≡◌, ℕ, ◌+◌, ◌≤◌, inl, inr, true
 use Rattle.std.specs.List.{slice_get}
 use Rattle.std.proofs.lemmas.Bool.{true≢false}
 use Rattle.fl_base.specs.Causes.{Rose, Appends}
+use Rattle.fl_base.proofs.Appended.{appends-none}
+use Rattle.fl_base.proofs.Risen.{rose-front, rose-back}
 use Rattle.fl_store.specs.Store.{at_rest}
 use Rattle.fl_store.specs.Named.{has_name}
-use Rattle.fl_store.proofs.Appends.{appends-none}
 use Rattle.fl_store.proofs.TableByName.{located-first, stand-named, first-named}
 use Rattle.fl_store.proofs.TablesOnlyRead.{tables-read}
 use Rattle.fl_store.proofs.Risen.{has_risen, risen-rose}
@@ -30,7 +31,6 @@ use Rattle.fl_parts.specs.declared.mount_fault.MountFault.{MountFault}
 use Rattle.fl_table.specs.declared.faults.PutRefusal.TheVariants as put
 use Rattle.fl_store.specs.Tables.{first_of, entries_with, IsNamed, TablesStand, TablesMounted, MountBreaks}
 use Rattle.fl_store.specs.declared.tables.Entry.{Entry}
-use Rattle.fl_store.proofs.CallsInTurn.{rose-front, rose-back}
 use Rattle.fl_store.proofs.TablesChanged.{AtPlace, some-is}
 use Rattle.fl_ship.specs.Ends.{BothMounted, Holding, IsBroken, IsGapBetween, IsUnread, MountsAll, ShipsSo, TablesShip}
 use Rattle.fl_ship.specs.Tables.{StopCausedBy, ShipLeaves, TellsShipped, mount_status, standing_on, stop_status, told_of}

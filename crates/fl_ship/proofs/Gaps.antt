@@ -4,18 +4,14 @@ use Rattle.std.specs.List.{AllByRecursion, last_or, slice_get}
 use Rattle.std.specs.Option.{is_some, option_map}
 use Rattle.std.proofs.lemmas.Bool.{eqb-true, eq-eqb, true≢false}
 use Rattle.fl_flash.specs.Buffer.{BufferState}
-use Rattle.fl_flash.specs.Flash.{FlashState}
-use Rattle.fl_flash.specs.declared.flash.FlashFault.TheVariants as flash
 use Rattle.fl_model.specs.Query.{entry_at}
 use Rattle.fl_model.specs.Record.{Record, Plan}
 use Rattle.fl_model.specs.Ship.{HasLastOf, MayShip, records_in}
 use Rattle.fl_model.specs.Table.{Table, Entry, last_entry}
-use Rattle.fl_page.specs.Causes.{IsCaused}
 use Rattle.fl_page.specs.declared.fault.ReadFault.{ReadFault}
 use Rattle.fl_page.specs.declared.fault.ReadFault.TheVariants as read
-use Rattle.fl_table.specs.Finding.{Finds, FindsEntry, LookupFails}
+use Rattle.fl_table.specs.Finding.{Finds, FindsEntry}
 use Rattle.fl_table.specs.declared.find.RowAt.{RowAt}
-use Rattle.fl_table.specs.declared.table.Table as memory
 use Rattle.fl_ship.specs.Missing.{FirstIs, FollowsOn, HasKey, HasNone, IsGap, LooksForGap}
 use Rattle.fl_ship.specs.declared.fault.ShipFault.TheVariants.{Read}
 use Rattle.fl_ship.specs.declared.stop.Stop.TheVariants.{Gap, Ship}
@@ -64,11 +60,6 @@ looks-missing source last oldest is (first, (behind, split, key)) = (refl, recor
 pub looks-unread : (source : Table) (last : Option ℕ) (fault : ReadFault) → FirstIs (records_in source) (Err fault) → LooksForGap (records_in source) last (Err (Ship (Read fault)))
 looks-unread source last (read.Flash fault) h = tt
 looks-unread source last (read.BadPage bad) h = absurd h
-
-pub lookup-caused : (t : memory.Table 64 64) (f g : FlashState) (fault : ReadFault) → LookupFails t f fault g → IsCaused f fault g
-lookup-caused t f g (read.Flash flash.PowerLost) h = h.0
-lookup-caused t f g (read.Flash flash.Media) h = h
-lookup-caused t f g (read.BadPage bad) h = tt
 
 -- ---- a table without a record has no last one
 

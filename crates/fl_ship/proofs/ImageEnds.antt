@@ -3,6 +3,7 @@ use Rattle.std.proofs.Common.{◌≡◌, ℕ, ◌+◌, ◌<◌, ◌≤◌, ◌�
 use Rattle.std.specs.List.{slice_get}
 use Rattle.std.proofs.lemmas.Option.{slice_get_within}
 use Rattle.fl_base.specs.Causes.{Rose}
+use Rattle.fl_base.proofs.Appended.{appends-none}
 use Rattle.fl_config.specs.Whole.{is_whole, Makes}
 use Rattle.fl_flash.specs.Media.{MediaState}
 use Rattle.fl_image.specs.Header.{IsAccepted, IsMade}
@@ -15,11 +16,10 @@ use Rattle.fl_model.specs.Image.{medium_len}
 use Rattle.fl_model.specs.Record.{Plan, Config}
 use Rattle.fl_model.specs.Table.{Table}
 use Rattle.fl_model.proofs.Lists.{slice_get-some}
+use Rattle.fl_model.proofs.TableImages.{images-many}
 use Rattle.fl_store.proofs.NewImages.{new-image}
 use Rattle.fl_store.proofs.Opened.{made-image, same-lines}
 use Rattle.fl_image.proofs.Made.{made, made-by}
-use Rattle.fl_store.proofs.Images.{images-many}
-use Rattle.fl_store.proofs.Appends.{appends-none}
 use Rattle.fl_store.proofs.TableByName.{first-named, located-first, located-none, new-named, none-named}
 use Rattle.fl_store.specs.Tables.{AreNewTables, IsNamed, Names}
 use Rattle.fl_store.specs.declared.tables.Entry.{Entry}

@@ -1,16 +1,16 @@
 -- What a table keeps of records that are put into it in their order, however that ends.
-use Rattle.std.proofs.Common.{◌≡◌, ℕ, zero, suc, ◌+◌, ◌-◌, ◌<◌, ◌≤◌, min, ◌⊎◌, inl, inr, Bool, Some, Ok, Err, List, [], ◌∷◌, ◌++◌, length, take, drop, refl, sym, ◌∙◌, ap, subst, append_assoc, append-nil, arith}
+use Rattle.std.proofs.Common.{◌≡◌, ℕ, suc, ◌+◌, ◌-◌, ◌<◌, ◌≤◌, min, ◌⊎◌, inl, inr, Bool, Some, Ok, Err, List, [], ◌∷◌, ◌++◌, length, take, drop, refl, sym, ◌∙◌, ap, subst, append_assoc, append-nil, arith}
 use Rattle.std.specs.List.{slice_get}
 use Rattle.std.proofs.lemmas.Bool.{cases_lt}
 use Rattle.std.proofs.lemmas.List.{drop_min, drop-take, drop-append-le, length-take, take_at, take_all, take-take, take-append-drop}
 use Rattle.fl_model.specs.Puts.{TablePuts, TablePutGoesOn}
 use Rattle.fl_model.specs.Record.{Record, Plan}
 use Rattle.fl_model.specs.Ship.{KeepsOf, records_in}
-use Rattle.fl_model.specs.Table.{Table, RingName, put_record, put_joined, with_room, make_room_seals, join_seals, table_seals, lose}
-use Rattle.fl_model.specs.Within.{seals_within, effect_within, TablePerforms}
-use Rattle.fl_model.specs.Work.{Kind, Device, PartEnd, Whole, CutIn, FailedIn, PartProgress}
-use Rattle.fl_model.proofs.Performs.{EndsAlong, performs-along}
-use Rattle.fl_model.proofs.ShipWork.{Drops, drops-none, drops-trans, effect-drops, seals-drop, map-take, map-append}
+use Rattle.fl_model.specs.Table.{Table, put_record, put_joined, with_room, make_room_seals, join_seals, table_seals, lose}
+use Rattle.fl_model.specs.Within.{seals_within, TablePerforms}
+use Rattle.fl_model.specs.Work.{Device, PartEnd, Whole, CutIn, FailedIn, PartProgress}
+use Rattle.fl_model.proofs.ShipWork.{Drops, drops-none, drops-trans, seals-drop, map-take, map-append, performs-drops}
+use Rattle.fl_model.proofs.Lists.{drop-at}
 use Rattle.fl_flash.specs.declared.flash.FlashFault.TheVariants as flash
 use Rattle.fl_table.specs.declared.faults.FlushFault.TheVariants as flush
 use Rattle.fl_table.specs.declared.faults.PutRefusal.TheVariants as put
@@ -48,12 +48,6 @@ keeps-less held given left k h = by-order (cases_lt h.first (h.given_up + k))
         record { given_up = h.given_up; first = h.first; kept = front ∙ ap (drop h.given_up) (take_all (h.given_up + k) (take h.first all) (omega (arith, short, lt))) }
     by-order (inr le) = record { given_up = h.given_up; first = h.given_up + k; kept = front ∙ ap (drop h.given_up) (take-take (h.given_up + k) h.first all le) }
 
--- the record at a place, and those behind it
-drop-next : (items : List Record) (n : ℕ) (item : Record) → slice_get items n ≡ Some item → drop n items ≡ item ∷ drop (suc n) items
-drop-next [] n item here = let no = here in cc
-drop-next (first ∷ items) zero item here = let same = here in cc
-drop-next (first ∷ items) (suc n) item here = drop-next items n item here
-
 -- ---- a table
 
 -- what is in memory alone is lost
@@ -77,28 +71,6 @@ drops-all plan (item ∷ items) t =
     let first = subst (λ (l : List Record). Drops l (records_in (put_record plan item t) ++ items)) (append_assoc (records_in t) (item ∷ []) items) (drops-more (records_in t ++ item ∷ []) (records_in (put_record plan item t)) items (drops-put plan item t)) in
     drops-trans (records_in t ++ item ∷ items) (records_in (put_record plan item t) ++ items) (records_in (put_all plan items (put_record plan item t))) first (drops-all plan items (put_record plan item t))
 
--- operations, however they end
-pub drops-performed : (plan : Plan) (rose : Bool) (operations : List (RingName × Kind)) (device : Device) (t : Table) (now : PartProgress Table) → TablePerforms plan rose operations device t now → Drops (records_in t) (records_in now.state)
-drops-performed plan rose operations device t now did =
-    let g = performs-along Dropped (λ operation. operation.1) (effect_within plan) (λ operation u. u)
-    (λ operation others s u d. drops-trans (records_in t) (records_in s) (records_in (effect_within plan operation s)) d (effect-drops plan operation.0 operation.1 s))
-    rose operations device t tt now (drops-none (records_in t)) did in
-    by-end now.end g.other.end g.ends
-  where
-    Dropped : List (RingName × Kind) → Table → Unit {0} → Type 0
-    Dropped operations s u = Drops (records_in t) (records_in s)
-
-    by-end : (end : PartEnd Table) (other : PartEnd (Unit {0})) {u : Unit {0}} → EndsAlong Dropped end other now.state u → Drops (records_in t) (records_in now.state)
-    by-end Whole Whole h = h
-    by-end (CutIn before) (CutIn b) h = h.1.1
-    by-end (FailedIn before) (FailedIn b) h = h.1.1
-    by-end Whole (CutIn b) h = absurd h
-    by-end Whole (FailedIn b) h = absurd h
-    by-end (CutIn before) Whole h = absurd h
-    by-end (CutIn before) (FailedIn b) h = absurd h
-    by-end (FailedIn before) Whole h = absurd h
-    by-end (FailedIn before) (CutIn b) h = absurd h
-
 -- .. in the put of a record
 drops-puts : (plan : Plan) (rose : Bool) (item : Record) (device : Device) (t : Table) (now : PartProgress Table) → TablePuts plan rose item device t now →
     Drops (records_in t) (records_in now.state) ⊎ Drops (records_in t ++ item ∷ []) (records_in now.state)
@@ -108,11 +80,11 @@ drops-puts plan rose item device t now (mid, did, goes) = by-end mid.end goes
     joined = put_joined plan item t
 
     room : Drops (records_in t) (records_in mid.state)
-    room = drops-performed plan rose (seals_within plan (make_room_seals plan t) t) device t mid did
+    room = performs-drops plan rose (seals_within plan (make_room_seals plan t) t) device t mid did
 
     by-end : (end : PartEnd Table) → TablePutGoesOn end mid now (TablePerforms plan rose (seals_within plan (join_seals plan joined) joined) mid.device joined now) →
         Drops (records_in t) (records_in now.state) ⊎ Drops (records_in t ++ item ∷ []) (records_in now.state)
-    by-end Whole others = inr (drops-trans (records_in t ++ item ∷ []) (records_in joined) (records_in now.state) (drops-joined plan item t) (drops-performed plan rose (seals_within plan (join_seals plan joined) joined) mid.device joined now others))
+    by-end Whole others = inr (drops-trans (records_in t ++ item ∷ []) (records_in joined) (records_in now.state) (drops-joined plan item t) (performs-drops plan rose (seals_within plan (join_seals plan joined) joined) mid.device joined now others))
     by-end (CutIn before) same = inl (subst (λ (p : PartProgress Table). Drops (records_in t) (records_in p.state)) (sym same) room)
     by-end (FailedIn before) same = inl (subst (λ (p : PartProgress Table). Drops (records_in t) (records_in p.state)) (sym same) room)
 
@@ -138,7 +110,7 @@ module _ (plan : Plan) (given : List Record) (table : Table) where
       held = records_in table
 
       whole : (take n given ++ item ∷ []) ++ drop (suc n) given ≡ given
-      whole = append_assoc (take n given) (item ∷ []) (drop (suc n) given) ∙ (ap (λ (l : List Record). take n given ++ l) (sym (drop-next given n item here)) ∙ take-append-drop n given)
+      whole = append_assoc (take n given) (item ∷ []) (drop (suc n) given) ∙ (ap (λ (l : List Record). take n given ++ l) (sym (drop-at given n item here)) ∙ take-append-drop n given)
 
       all : Drops (held ++ (take n given ++ item ∷ [])) (records_in mid ++ item ∷ [])
       all = subst (λ (l : List Record). Drops l (records_in mid ++ item ∷ [])) (append_assoc held (take n given) (item ∷ [])) (drops-more (held ++ take n given) (records_in mid) (item ∷ []) (drops-some n mid mid h (drops-none (records_in mid))))
@@ -159,7 +131,7 @@ module _ (plan : Plan) (given : List Record) (table : Table) where
   keeps-unflushed : (n : ℕ) (mid after : Table) → HasPut plan given n table mid → FailsInFlush plan mid after → KeepsOf (records_in table) given (records_in after)
   keeps-unflushed n mid after h fails =
       subst (λ (t : Table). KeepsOf (records_in table) given (records_in t)) (sym fails.left_is)
-      (keeps-some n mid fails.now.state h (drops-performed plan _ (seals_within plan (table_seals plan mid) mid) fails.device mid fails.now fails.did))
+      (keeps-some n mid fails.now.state h (performs-drops plan _ (seals_within plan (table_seals plan mid) mid) fails.device mid fails.now fails.did))
 
 pub ships-keep : ShipsKeep
 ships-keep plan given table (Ok n) after (all, (mid, put, is)) =

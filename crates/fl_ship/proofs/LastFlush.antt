@@ -17,7 +17,6 @@ use Rattle.fl_model.proofs.Performs.{performs-whole}
 use Rattle.fl_rlc.specs.Logged.{Rests, Stands}
 use Rattle.fl_rlc.specs.Outcomes.{FlushEnds}
 use Rattle.fl_rlc.specs.declared.table.LoggedTable.{LoggedTable}
-use Rattle.fl_table.specs.Causes as table
 use Rattle.fl_parts.specs.Failing.{BySeals, FaultEnds}
 use Rattle.fl_table.specs.declared.faults.FlushFault.{FlushFault}
 use Rattle.fl_table.specs.declared.faults.FlushFault.TheVariants as flush
@@ -72,11 +71,6 @@ module _ (first : ℕ) (plan : Plan) (table : model.Table) (t v : LoggedTable 64
       stands = λ whole. absurd (subst (λ (e : PartEnd model.Table). FaultEnds e fault h) whole ends.answer);
     }
     flush-breaks flush.Stopped ends = absurd ends
-
--- why it fails
-pub flush-caused : (f g : FlashState) (fault : FlushFault) → (fault ≡ flush.Stopped → ⊥) → table.FlushCausedBy f fault g → FlushCausedBy f g (Flush fault)
-flush-caused f g (flush.Flash fault) running cause = (fault, refl, cause)
-flush-caused f g flush.Stopped running cause = absurd (running refl)
 
 -- ---- behind rows
 

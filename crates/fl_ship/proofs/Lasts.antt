@@ -3,14 +3,15 @@ use Rattle.std.proofs.Common.{◌≡◌, ℕ, zero, suc, ◌+◌, ◌-◌, ◌/�
 use Rattle.std.specs.List.{AllByRecursion, last_or, sum}
 use Rattle.std.proofs.lemmas.List.{length-map, take-append-le, take_all}
 use Rattle.std.proofs.lemmas.List.Sums.{sum_by-take-drop, sum_by-take-le, sum_by_push}
-use Rattle.std.proofs.lemmas.Bool.{true≢false}
-use Rattle.fl_machine.proofs.Trimmed.{full_long}
+use Rattle.fl_base.proofs.Tests.{some_from}
 use Rattle.fl_model.specs.Record.{Plan, Record, content_per_page, entries_per_page, has_index, has_log, rows_per_page}
 use Rattle.fl_model.specs.Ring.{IsShape, Ring, Shape, extended, given_up, is_full, sealed}
 use Rattle.fl_model.specs.Ship.{records_in, to_ship}
 use Rattle.fl_model.specs.Table.{Table, Entry, RingName, DataRing, IndexRing, VarRing, LogRing, after_seal, after_seals, blob_len, fill, flushed, join_seals, lose, put_joined, put_record, shape_of, start_offset, start_page, table_seals, with_room}
 use Rattle.fl_model.proofs.ShipWork.{map-append, map-drop}
 use Rattle.fl_model.proofs.CopiesAreParts.{ships-all, ships-parts}
+use Rattle.fl_model.proofs.Sealed.{full-long}
+use Rattle.fl_model.proofs.Lists.{last_or-append}
 use Rattle.fl_machine.proofs.LogTables.{seals_by}
 use Rattle.fl_ship.specs.Ends.{shipped_records}
 use Rattle.fl_ship.specs.Laws.{ShipsLeaveParts, ShipsReachTheEnd}
@@ -18,10 +19,6 @@ use Rattle.fl_ship.specs.Puts.{put_all}
 use Rattle.fl_ship.proofs.KeptRecords.{ships-keep}
 
 -- ---- the last of a list
-
-pub last-append : (o : Option Record) (xs ys : List Record) → last_or o (xs ++ ys) ≡ last_or (last_or o xs) ys
-last-append o [] ys = refl
-last-append o (x ∷ xs) ys = last-append (Some x) xs ys
 
 pub last-drop : (o : Option Record) (k : ℕ) (xs : List Record) → k < length xs → last_or o (drop k xs) ≡ last_or o xs
 last-drop o k [] h = absurd (omega arith)
@@ -55,7 +52,7 @@ few-gone shape count ring ok = by_full (is_full shape (extended count ring)) ref
   where
     by_full : (b : Bool) → is_full shape (extended count ring) ≡ b → sum (cond b (take shape.pages (ring.counts ++ count ∷ [])) []) ≤ sum ring.counts
     by_full true e =
-        let long = full_long shape (extended count ring) ok e in
+        let long = full-long shape (extended count ring) ok e in
         let len = length-append ring.counts (count ∷ []) in
         let pages = ok.pages in
         let front : take shape.pages (ring.counts ++ count ∷ []) ≡ take shape.pages ring.counts = take-append-le shape.pages ring.counts (count ∷ []) (omega (arith, long, len, pages)) in
@@ -93,11 +90,7 @@ flush-by plan t false false true last ok some h = data-last plan (after_seal pla
 flush-by plan t false false false last ok some h = data-last plan t last ok (some refl) h
 
 flush-last : (plan : Plan) (t : Table) (last : Option Record) → IsShape (shape_of plan DataRing) → IsLast t last → IsLast (flushed plan t) last
-flush-last plan t last ok h = flush-by plan t (t.pending == 0) (has_index plan && (length t.waiting == entries_per_page plan)) (nat_lt 0 (fill t)) last ok (some t.pending) h
-  where
-    some : (n : ℕ) → (n == 0) ≡ false → 0 < n
-    some zero e = absurd (true≢false e)
-    some (suc n) e = omega arith
+flush-last plan t last ok h = flush-by plan t (t.pending == 0) (has_index plan && (length t.waiting == entries_per_page plan)) (nat_lt 0 (fill t)) last ok (some_from t.pending) h
 
 -- ---- puts
 
@@ -141,17 +134,17 @@ put-last plan item t ok c =
     let counted = room.counted in
     let new : Entry = record { kept = item; page = start_page plan (blob_len item) before; offset = start_offset plan (blob_len item) before } in
     others-last plan (join_seals plan (put_joined plan item t)) (put_joined plan item t) (Some item) (joined-rings plan (put_joined plan item t)) (record {
-      last_is = ap (last_or None) (map-append before.entries (new ∷ [])) ∙ last-append None (records_in before) (item ∷ []);
+      last_is = ap (last_or None) (map-append before.entries (new ∷ [])) ∙ last_or-append None (records_in before) (item ∷ []);
       counted = (let l = length-append before.entries (new ∷ []) in omega (arith, counted, l));
     })
 
 puts-last : (plan : Plan) (given : List Record) (t : Table) → IsShape (shape_of plan DataRing) → IsCounted t → IsLast (put_all plan given t) (last_or None (records_in t ++ given))
-puts-last plan [] t ok c = record { last_is = sym (last-append None (records_in t) []); counted = c }
+puts-last plan [] t ok c = record { last_is = sym (last_or-append None (records_in t) []); counted = c }
 puts-last plan (item ∷ given) t ok c =
     let put = put-last plan item t ok c in
     let rest = puts-last plan given (put_record plan item t) ok put.counted in
     record {
-      last_is = rest.last_is ∙ (last-append None (records_in (put_record plan item t)) given ∙ (ap (λ (o : Option Record). last_or o given) put.last_is ∙ sym (last-append None (records_in t) (item ∷ given))));
+      last_is = rest.last_is ∙ (last_or-append None (records_in (put_record plan item t)) given ∙ (ap (λ (o : Option Record). last_or o given) put.last_is ∙ sym (last_or-append None (records_in t) (item ∷ given))));
       counted = rest.counted;
     }
 

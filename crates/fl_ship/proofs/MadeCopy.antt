@@ -1,5 +1,5 @@
 -- The medium of a copy that is opened: one that was looked at, and one that was made.
-use Rattle.std.proofs.Common.{◌≡◌, ℕ, ◌≤◌, ◌⊎◌, inl, inr, IsTrue, Some, Result, Ok, Err, List, [], ◌∷◌, length, take, refl, sym, ◌∙◌, ap, subst, arith}
+use Rattle.std.proofs.Common.{◌≡◌, ℕ, ◌≤◌, ◌⊎◌, inl, inr, IsTrue, Some, Result, Ok, Err, List, [], ◌∷◌, length, take, refl, sym, ◌∙◌, ap, subst}
 use Rattle.std.specs.Prelude.{IfErr, OnOk}
 use Rattle.std.specs.List.{slice_get}
 use Rattle.fl_base.specs.Causes.{Rose}
@@ -20,10 +20,6 @@ use Rattle.fl_ship.specs.declared.status.ShipStatus.TheVariants.{Done, OutWrite,
 
 pub some-bytes : (bytes : List ℕ) (n : ℕ) → n ≡ length bytes → (n ≡ 0 → ⊥) → bytes ≡ [] → ⊥
 some-bytes bytes n len some empty = some (len ∙ ap (λ (l : List ℕ). length l) empty)
-
-pub no-bytes : (bytes : List ℕ) (n : ℕ) → n ≡ length bytes → n ≡ 0 → bytes ≡ []
-no-bytes [] n len none = refl
-no-bytes (byte ∷ bytes) n len none = absurd (omega (arith, len, none))
 
 -- a copy that holds bytes isn't made
 pub kept-copy : (config : Config) (bytes : List ℕ) → (bytes ≡ [] → ⊥) → bytes ≡ made_image config bytes

@@ -5,23 +5,21 @@ use Rattle.std.specs.Option.{option_map, unwrap_or}
 use Rattle.std.proofs.lemmas.List.{drop_all, drop-take, length-map}
 use Rattle.std.proofs.lemmas.Bool.{cases_lt}
 use Rattle.std.proofs.lemmas.Option.{none-some}
-use Rattle.fl_model.proofs.Lists.{take_none}
-use Rattle.fl_base.specs.declared.types.CutKind.{CutKind}
+use Rattle.fl_model.proofs.Lists.{take_none, each-front, each-weaker}
 use Rattle.fl_model.specs.Mount.{Turn, Of, Replay, GoesOn, MountEnd, Mounted, Mounts, Stopped, Unread, operations_at, ready, turn_operations, turned, turned_at, turns_from}
 use Rattle.fl_model.specs.Record.{Plan, Record, has_log}
 use Rattle.fl_model.specs.Ship.{records_in}
 use Rattle.fl_model.specs.Table.{Table, Entry, RingName, DataRing, IndexRing, VarRing, LogRing, is_dirty, is_torn, lose, seal_page, table_seals}
 use Rattle.fl_model.specs.Within.{at_place, seals_within}
-use Rattle.fl_model.specs.Work.{CutShort, Device, Either, Erase, Body, Failed, Finished, Kind, Leaves, Mark, Operation, Outcome, Performs, PerformsFirst, Progress, VoidMark, counted, cut_now, done, effect}
+use Rattle.fl_model.specs.Work.{CutShort, Device, Erase, Body, Failed, Finished, Kind, Mark, Operation, Outcome, Performs, Progress, VoidMark, done, effect}
 use Rattle.fl_model.proofs.Among.{seals-at}
 use Rattle.fl_model.proofs.ShipWork.{Drops, drops-none, drops-trans, effect-drops, map-take}
 use Rattle.fl_machine.specs.Step.{all_ready}
 use Rattle.fl_machine.proofs.MountsFindRecords.{has-turns}
 use Rattle.fl_machine.proofs.LogMoves.{AllAt, all-at}
-use Rattle.fl_machine.proofs.Logs.{all_front, all_weaker}
 use Rattle.fl_machine.proofs.MountsAtPlace.{HasTurns, IsOtherTurn}
-use Rattle.fl_machine.proofs.Performed.{either_ending}
 use Rattle.fl_machine.proofs.Places.{Both, RelAt, both-refl, both-trans, rel-changed_by}
+use Rattle.fl_machine.proofs.Performed.{performs-rel}
 
 -- the oldest of its records went, and as many wait for a page
 pub record DropsOldest (before after : Table) : Type 0 where
@@ -74,9 +72,6 @@ OldestAt p xs ys = RelAt DropsOldest p xs ys
 at-none : (p : ℕ) (xs : List Table) → OldestAt p xs xs
 at-none p xs = both-refl DropsOldest oldest-none (slice_get xs p)
 
-at-same : (p : ℕ) (xs ys : List Table) → ys ≡ xs → OldestAt p xs ys
-at-same p xs ys e = subst (λ (zs : List Table). OldestAt p xs zs) (sym e) (at-none p xs)
-
 at-trans : (p : ℕ) (xs ys zs : List Table) → OldestAt p xs ys → OldestAt p ys zs → OldestAt p xs zs
 at-trans p xs ys zs h k = both-trans DropsOldest DropsOldest DropsOldest oldest-trans _ _ _ h k
 
@@ -89,19 +84,9 @@ done-oldest p plans o tables calm = rel-changed_by DropsOldest oldest-none o.tab
 
 performs-oldest : (p : ℕ) (plans : List Plan) (rose : Bool) (operations : List Operation) (device : Device) (tables : List Table) (end : Progress) → AllByRecursion (IsCalm p) operations →
     Performs plans rose operations device tables end → OldestAt p tables end.tables
-performs-oldest p plans rose [] device tables end calm h = at-same p tables end.tables h.2
-performs-oldest p plans rose (o ∷ operations) device tables end calm h =
-    first (cut_now device) h (λ g. performs-oldest p plans rose operations (counted o.kind device) (done plans o tables) end calm.1 g)
-  where
-    leaves : Leaves Either tables (done plans o tables) end.tables → OldestAt p tables end.tables
-    leaves (inl e) = at-same p tables end.tables e
-    leaves (inr e) = subst (λ (ts : List Table). OldestAt p tables ts) (sym e) (done-oldest p plans o tables calm.0)
-
-    first : (now : Option CutKind) → PerformsFirst plans rose now o device tables end (Performs plans rose operations (counted o.kind device) (done plans o tables) end) →
-        (Performs plans rose operations (counted o.kind device) (done plans o tables) end → OldestAt p (done plans o tables) end.tables) → OldestAt p tables end.tables
-    first (Some kind) h go = leaves (either_ending rose kind o.kind tables (done plans o tables) end.tables h.2)
-    first None (inl h) go = leaves h.3
-    first None (inr h) go = at-trans p tables (done plans o tables) end.tables (done-oldest p plans o tables calm.0) (go h)
+performs-oldest p plans rose operations device tables end calm h =
+    performs-rel (OldestAt p) (at-none p) (at-trans p) plans rose operations device tables end
+    (each-weaker (IsCalm p) (λ o. (xs : List Table) → OldestAt p xs (done plans o xs)) (λ o calm xs. done-oldest p plans o xs calm) operations calm) h
 
 -- ---- turns
 
@@ -110,18 +95,14 @@ abbrev IsCalmTurn : ℕ → ℕ × Turn → Type 0
 IsCalmTurn p (n, Of ring) = Unit {0}
 IsCalmTurn p (n, Replay) = n ≢ p
 
+calm-turn : (p : ℕ) (at : ℕ × Turn) → IsOtherTurn p at.1 at.0 → IsCalmTurn p at
+calm-turn p (n, Of ring) h = tt
+calm-turn p (n, Replay) h = h
+
 calm-turns : (p : ℕ) (had : Bool) (turns : List (ℕ × Turn)) → HasTurns p had turns → AllByRecursion (IsCalmTurn p) turns
 calm-turns p had [] h = tt
-calm-turns p true (at ∷ turns) h = (calm-turn at h.0, calm-turns p true turns h.1)
-  where
-    calm-turn : (at : ℕ × Turn) → IsOtherTurn p at.1 at.0 → IsCalmTurn p at
-    calm-turn (n, Of ring) h = tt
-    calm-turn (n, Replay) h = h
-calm-turns p false (at ∷ turns) (inl h) = (calm-turn at h.0, calm-turns p false turns h.1)
-  where
-    calm-turn : (at : ℕ × Turn) → IsOtherTurn p at.1 at.0 → IsCalmTurn p at
-    calm-turn (n, Of ring) h = tt
-    calm-turn (n, Replay) h = h
+calm-turns p true (at ∷ turns) h = (calm-turn p at h.0, calm-turns p true turns h.1)
+calm-turns p false (at ∷ turns) (inl h) = (calm-turn p at h.0, calm-turns p false turns h.1)
 calm-turns p false (at ∷ turns) (inr h) = (subst (IsCalmTurn p) (sym h.0) tt, calm-turns p true turns h.1)
 
 turned-oldest : (p : ℕ) (plans : List Plan) (at : ℕ × Turn) (tables : List Table) → IsCalmTurn p at → OldestAt p tables (turned_at plans at tables)
@@ -150,7 +131,7 @@ calm-operations p plans (n, turn) tables calm = by_plan (slice_get plans n) (sli
         let within = seals_within plan (table_seals plan table) table in
         let there : AllAt n (map (at_place n) within) = all-at n within in
         subst (AllByRecursion (IsCalm p)) (sym (seals-at plan n (table_seals plan table) table))
-        (all_weaker (λ (o : Operation). o.table ≡ n) (IsCalm p) (λ o e. inl (λ q. h (sym e ∙ q))) (map (at_place n) within) there)
+        (each-weaker (λ (o : Operation). o.table ≡ n) (IsCalm p) (λ o e. inl (λ q. h (sym e ∙ q))) (map (at_place n) within) there)
 
     by_plan : (plan : Option Plan) (table : Option Table) → AllByRecursion (IsCalm p) (unwrap_or (option_map (λ plan. unwrap_or (option_map (turn_operations plan n turn) table) []) plan) [])
     by_plan None table = tt
@@ -172,7 +153,7 @@ turns-oldest p plans rose (at ∷ turns) device tables how calm (inl (end, unrea
     let all = subst (AllByRecursion (IsCalm p)) unread.split (calm-operations p plans at begun calm.0) in
     subst (λ (e : MountEnd). OldestAt p tables (tables_left e)) (sym is)
     (at-trans p tables begun end.tables (turned-oldest p plans at tables calm.0)
-    (performs-oldest p plans rose unread.front device begun end (all_front (IsCalm p) unread.front unread.others all) unread.did))
+    (performs-oldest p plans rose unread.front device begun end (each-front (IsCalm p) unread.front unread.others all) unread.did))
 turns-oldest p plans rose (at ∷ turns) device tables how calm (inr (end, did, goes)) =
     by_outcome end.outcome goes (λ g. at-trans p tables end.tables (tables_left how) here (turns-oldest p plans rose turns end.device end.tables how calm.1 g))
   where

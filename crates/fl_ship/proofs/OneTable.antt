@@ -27,6 +27,7 @@ use Rattle.fl_table.specs.Standing.{Stands}
 use Rattle.fl_table.specs.declared.faults.FlushFault.TheVariants as flush
 use Rattle.fl_table.specs.declared.faults.PutRefusal.TheVariants as put
 use Rattle.fl_table.specs.declared.table.Table as memory
+use Rattle.fl_table.proofs.Entries.{few-keys}
 use Rattle.fl_store.proofs.TablesChanged.{off-rests}
 use Rattle.fl_ship.specs.Ends.{shipped_records}
 use Rattle.fl_ship.specs.Missing.{keys_above, FollowsOn, LooksForGap}
@@ -38,7 +39,6 @@ use Rattle.fl_ship.specs.declared.fault.ShipFault.TheVariants.{Read, Put, Flush}
 use Rattle.fl_ship.specs.declared.stop.Stop.{Stop}
 use Rattle.fl_ship.specs.declared.stop.Stop.TheVariants as stop
 use Rattle.fl_ship.proofs.Gaps.{is-gap, may-ship}
-use Rattle.fl_cursor.proofs.Selected.{few-keys}
 use Rattle.fl_ship.proofs.ToShip.{IsPlain, all-plain, none-to-ship, rows-to-ship}
 
 -- the records of the source have no blobs, since its rows have the form of the copy's

@@ -1,7 +1,7 @@
 -- A row that was read fits its layout, so that a table of this layout refuses it for want of page numbers alone.
-use Rattle.std.proofs.Common.{◌≡◌, ℕ, ◌<◌, ◌≤◌, ◌⊎◌, inl, inr, Bool, true, false, not, nat_le, nat_lt, ◌==◌, if◌then◌else◌, IfErr, Option, Some, None, Result, Ok, Err, length, refl, sym, ◌∙◌, ap, subst, arith}
+use Rattle.std.proofs.Common.{◌≡◌, ℕ, ◌<◌, ◌⊎◌, inl, inr, Bool, true, false, not, ◌==◌, if◌then◌else◌, IfErr, Option, Some, None, Result, Ok, Err, length, refl, sym, ◌∙◌, ap, subst}
 use Rattle.std.specs.Option.{option_map}
-use Rattle.std.proofs.lemmas.Bool.{leb-true, ltb-true, eq-eqb}
+use Rattle.std.proofs.lemmas.Bool.{eq-eqb, le-ltb, lt-leb}
 use Rattle.fl_flash.specs.Flash.{FlashState}
 use Rattle.fl_model.specs.Record.{first_misfit, greatest_key}
 use Rattle.fl_model.specs.Row.{Row, FitsRow}
@@ -44,23 +44,9 @@ spent-either : (a b : Option PutRefusal) → IsSpent a → IsSpent b → IsSpent
 spent-either a b (inl none) h = subst (λ (o : Option PutRefusal). IsSpent (or_else o b)) (sym none) h
 spent-either a b (inr spent) h = subst (λ (o : Option PutRefusal). IsSpent (or_else o b)) (sym spent) (inr refl)
 
-not-le : (a b : ℕ) → b < a → nat_le a b ≡ false
-not-le a b more = by-test (nat_le a b) refl
-  where
-    by-test : (t : Bool) → nat_le a b ≡ t → t ≡ false
-    by-test true is = let le = leb-true a b is in absurd (omega (arith, le, more))
-    by-test false is = refl
-
-not-lt : (a b : ℕ) → b ≤ a → nat_lt a b ≡ false
-not-lt a b within = by-test (nat_lt a b) refl
-  where
-    by-test : (t : Bool) → nat_lt a b ≡ t → t ≡ false
-    by-test true is = let lt = ltb-true a b is in absurd (omega (arith, lt, within))
-    by-test false is = refl
-
 no-key : (last : Option ℕ) (key : ℕ) → ((before : ℕ) → last ≡ Some before → before < key) → key_refused last key ≡ None
 no-key None key above = refl
-no-key (Some before) key above = ap (λ (b : Bool). refused_if b (Key before)) (not-le key before (above before refl))
+no-key (Some before) key above = ap (λ (b : Bool). refused_if b (Key before)) (lt-leb key before (above before refl))
 
 module _ (t : Table 64 64) (row : Row) (fits : FitsRow (layout_of t.schema) row) where
   no-columns : refused_if (not (length row.values == length (layout_of t.schema).columns)) (Columns (length (layout_of t.schema).columns)) ≡ None
@@ -68,7 +54,7 @@ module _ (t : Table 64 64) (row : Row) (fits : FitsRow (layout_of t.schema) row)
 
   no-value : value_refused t row.key row.values ≡ None
   no-value =
-      ap (λ (b : Bool). if b then Some (Value 0) else option_map (λ column. Value column) (first_misfit 1 (layout_of t.schema).columns row.values)) (not-lt (greatest_key (layout_of t.schema)) row.key fits.key)
+      ap (λ (b : Bool). if b then Some (Value 0) else option_map (λ column. Value column) (first_misfit 1 (layout_of t.schema).columns row.values)) (le-ltb (greatest_key (layout_of t.schema)) row.key fits.key)
       ∙ ap (λ (o : Option ℕ). option_map (λ column. Value column) o) fits.values
 
   -- page numbers alone decide

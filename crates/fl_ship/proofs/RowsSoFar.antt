@@ -2,7 +2,7 @@
 use Rattle.std.proofs.Common.{◌≡◌, ℕ, suc, ◌+◌, ◌-◌, ◌<◌, ◌≤◌, Bool, true, IsTrue, Option, Some, None, Result, Ok, Err, List, [], ◌∷◌, ◌++◌, length, take, drop, refl, sym, ◌∙◌, ap, subst, append_assoc, append-nil, length-append, arith}
 use Rattle.std.specs.List.{slice_get}
 use Rattle.std.proofs.Math.Seq.{take-append-add}
-use Rattle.std.proofs.lemmas.List.{map-append, map_push, take_at, take_all, drop_at, length-map, length_push, length-take}
+use Rattle.std.proofs.lemmas.List.{map-append, map_push, take_at, take_all, drop_at, length-map, length_push}
 use Rattle.std.proofs.lemmas.Bool.{ltb-true}
 use Rattle.std.proofs.lemmas.Option.{same_Some}
 use Rattle.fl_model.proofs.Lists.{take_none}
@@ -136,13 +136,6 @@ module _ (Told : Type 0) (all left : List Row) (n count : ℕ) (t : LoggedTable 
   number-end none told =
       let is : all ≡ far.done = far.split told ∙ (ap (λ (l : List Row). far.done ++ l) (none told) ∙ append-nil far.done) in
       sym (ap (λ (l : List Row). length (take count l)) is ∙ (ap (λ (l : List Row). length l) (take_all count far.done (omega (arith, few, far.as_many))) ∙ far.as_many))
-
-  pub number-whole : n ≡ count → Told → n ≡ length (take count all)
-  number-whole is told =
-      let size = length-append far.done left in
-      let total : length all ≡ n + length left = ap (λ (l : List Row). length l) (far.split told) ∙ omega (arith, size, far.as_many) in
-      let front = length-take count all in
-      omega (arith, front, total, is)
 
   pub left-behind : Told → left ≡ drop n all
   left-behind told = sym (ap (drop n) (far.split told) ∙ drop_at far.done left n far.as_many)

@@ -9,7 +9,7 @@ use Rattle.fl_model.specs.Table.{Table, Refusal, refusal_of, table_seals}
 use Rattle.fl_model.specs.Within.{seals_within}
 use Rattle.fl_model.specs.Work.{Device, PartEnd, Whole, CutIn, FailedIn, PartProgress}
 use Rattle.fl_model.proofs.PutAmongTables.{put-whole}
-use Rattle.fl_model.proofs.ShipWork.{drops-none}
+use Rattle.fl_model.proofs.ShipWork.{drops-none, performs-drops}
 use Rattle.fl_flash.specs.Flash.{FlashState}
 use Rattle.fl_flash.specs.declared.flash.FlashFault.{FlashFault}
 use Rattle.fl_parts.specs.Failing.{FaultEnds}
@@ -18,7 +18,7 @@ use Rattle.fl_table.specs.declared.faults.PutRefusal.TheVariants as put
 use Rattle.fl_ship.specs.Puts.{AreAccepted, HasPut, put_all}
 use Rattle.fl_ship.specs.Rows.{ArePut, EndsInFlush, WorkKeeps}
 use Rattle.fl_ship.specs.declared.fault.ShipFault.TheVariants.{Read, Put, Flush}
-use Rattle.fl_ship.proofs.KeptRecords.{both, drops-performed, keeps-next, keeps-some}
+use Rattle.fl_ship.proofs.KeptRecords.{both, keeps-next, keeps-some}
 
 -- so far, and nothing failed
 abbrev pub so-far : Device → Table → PartProgress Table
@@ -91,7 +91,7 @@ module _ (plan : Plan) (rose : Bool) where
   flush-keeps given device table now h =
       let puts : ArePut plan rose (take (length given) given) device table h.mid = subst (λ (l : List Record). ArePut plan rose l device table h.mid) (sym (take_all (length given) given (omega arith))) h.before in
       keeps-some plan given table (length given) h.mid.state now.state (puts-has given (length given) device table h.mid (omega arith) puts)
-      (drops-performed plan rose (seals_within plan (table_seals plan h.mid.state) h.mid.state) h.mid.device h.mid.state now h.did)
+      (performs-drops plan rose (seals_within plan (table_seals plan h.mid.state) h.mid.state) h.mid.device h.mid.state now h.did)
 
 -- what is kept, however it ends
 pub work-keeps : WorkKeeps

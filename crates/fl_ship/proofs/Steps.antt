@@ -9,8 +9,7 @@ use Rattle.std.proofs.lemmas.Bool.{false≢true}
 use Rattle.fl_store.specs.Store.{at_rest}
 use Rattle.fl_machine.specs.Machine.{Machine, begins}
 use Rattle.fl_machine.specs.Step.{Located, all_ready, located_from}
-use Rattle.fl_machine.proofs.LogMoves.{changed_at-there}
-use Rattle.fl_machine.proofs.LoggedSteps.{IsLocated, located-is}
+use Rattle.fl_machine.proofs.LoggedPuts.{IsLocated, located-is}
 use Rattle.fl_model.specs.Image.{AreTableImages}
 use Rattle.fl_model.specs.Mount.{Mounts, Stopped, Unread, turns_from}
 use Rattle.fl_model.specs.Record.{Config, Plan, Record, bytes_equal, has_log, has_var}
@@ -19,6 +18,7 @@ use Rattle.fl_model.specs.Ship.{CopyRests, KeepsOf, MayShip, records_in, to_ship
 use Rattle.fl_model.specs.Table.{Table, fresh_table, lose}
 use Rattle.fl_model.specs.Within.{with_table}
 use Rattle.fl_model.proofs.ShipWork.{Drops, drops-none}
+use Rattle.fl_model.proofs.Among.{changed_at-there}
 use Rattle.fl_page.specs.declared.fault.ReadFault.TheVariants as read
 use Rattle.fl_flash.specs.declared.flash.FlashFault.TheVariants as flash
 use Rattle.fl_table.specs.declared.faults.FlushFault.TheVariants as flush

@@ -12,6 +12,7 @@ use Rattle.fl_model.specs.Record.{Record, Plan, has_var, key_limit}
 use Rattle.fl_model.specs.Row.{stored_row}
 use Rattle.fl_model.specs.Ship.{comes_after, records_in, to_ship}
 use Rattle.fl_model.specs.Table.{Table, Entry, last_entry}
+use Rattle.fl_model.proofs.Lists.{each-weaker}
 use Rattle.fl_ops.specs.Columns.{record_of, records_of}
 use Rattle.fl_ship.specs.Missing.{keys_above}
 
@@ -29,8 +30,7 @@ fits-plain plan entry none few fits = record { blob = by-blob entry.kept.blob re
     by-blob (Some bytes) is fit = let no : true ≡ false = sym fit.0 ∙ none in cc
 
 pub all-plain : (plan : Plan) (entries : List Entry) → has_var plan ≡ false → key_limit plan < 2 ^ 64 → AllByRecursion (FitsPlan plan) entries → AllByRecursion IsPlain entries
-all-plain plan [] none few fit = tt
-all-plain plan (entry ∷ entries) none few fit = (fits-plain plan entry none few fit.0, all-plain plan entries none few fit.1)
+all-plain plan entries none few fit = each-weaker (FitsPlan plan) IsPlain (λ entry fits. fits-plain plan entry none few fits) entries fit
 
 -- it is its row
 plain-record : (entry : Entry) → IsPlain entry → record_of (stored_row entry) ≡ entry.kept

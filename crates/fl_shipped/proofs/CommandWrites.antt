@@ -4,7 +4,7 @@ use Rattle.std.specs.List.{last_or, slice_get}
 use Rattle.std.specs.Option.{is_some, option_map}
 use Rattle.std.proofs.lemmas.Bool.{cases_eq, cases_lt}
 use Rattle.std.proofs.lemmas.List.{append-nil, append_assoc}
-use Rattle.std.proofs.lemmas.Option.{slice_get-map, none-some}
+use Rattle.std.proofs.lemmas.Option.{slice_get-map, none-some, same_Some}
 use Rattle.std.proofs.Math.Seq.{drop-length, take-append_seam, take-length}
 use Rattle.fl_base.specs.Generator.{next_random}
 use Rattle.fl_model.specs.Puts.{Puts}
@@ -12,23 +12,21 @@ use Rattle.fl_model.specs.Record.{Config, Plan, Record}
 use Rattle.fl_model.specs.Table.{Entry, Table, flushed, lose, put_record, refusal_of, table_seals, written}
 use Rattle.fl_model.specs.Work.{CutShort, Device, Failed, Finished, Outcome, Progress, changed_at}
 use Rattle.fl_model.proofs.Lists.{take_none}
+use Rattle.fl_model.proofs.Among.{changed_at-elsewhere}
 use Rattle.fl_words.specs.Command as command
 use Rattle.fl_words.specs.Command.{Command}
 use Rattle.fl_words.specs.Reply as reply
 use Rattle.fl_words.specs.Reply.{Reply}
 use Rattle.fl_machine.specs.Machine.{Machine}
 use Rattle.fl_machine.specs.Step.{EndsAs, FlushStep, LoadStep, LoadsFrom, LoadsOn, Located, Moment, PutStep, Says, located, load_record, refused}
-use Rattle.fl_machine.proofs.LogMoves.{changed_at-elsewhere}
 use Rattle.fl_machine.proofs.Logs.{core}
-use Rattle.fl_machine.proofs.LoggedSteps.{IsLocated, located-is, with-option, same-plan}
+use Rattle.fl_machine.proofs.LoggedPuts.{IsLocated, located-is}
+use Rattle.fl_machine.proofs.StepCases.{with-option}
 use Rattle.fl_shipped.specs.Growing.{flush_pages, load_pages, paged_records, put_pages, waiting_records, sealed_pages, written_by}
 use Rattle.fl_shipped.proofs.SealedPages.{Halts, HasSealed, IsUnderway, flush-goes, joined, order-takes, put-some, records}
 use Rattle.fl_shipped.proofs.Orders.{DropsFrom, InOrder, order-front, order-push}
 use Rattle.fl_shipped.specs.Ascending.{TakesLower, first_put, named_by}
 use Rattle.fl_shipped.proofs.PagesAtPlace.{At, FailsWell, LeftAt, flush-there, left-at, put-there, puts-elsewhere, puts-here, seals-elsewhere, seals-here}
-
-pub same-table : (tables : List Table) (p : ℕ) (a b : Table) → slice_get tables p ≡ Some a → slice_get tables p ≡ Some b → a ≡ b
-same-table tables p a b e k = let q : Some a ≡ Some b = sym e ∙ k in cc (q)
 
 -- ---- what is known of a table between two commands
 
@@ -149,8 +147,8 @@ module _ (Bad : Type 0) (config : Config) (p : ℕ) (plan : Plan) (written : Lis
   -- the plan and the table of a command at this place
   is-here : (at : Located) → slice_get config.plans p ≡ Some plan → slice_get old.tables p ≡ Some x → IsLocated config.plans old.tables at at.place → at.place ≡ p → at ≡ record { place = p; plan = plan; table = x }
   is-here at e k where_is same =
-      let q : at.plan ≡ plan = same-plan config.plans p at.plan plan (subst (λ n. slice_get config.plans n ≡ Some at.plan) same where_is.plan) e in
-      let t : at.table ≡ x = same-table old.tables p at.table x (subst (λ n. slice_get old.tables n ≡ Some at.table) same where_is.table) k in
+      let q : at.plan ≡ plan = same_Some at.plan plan (sym (subst (λ n. slice_get config.plans n ≡ Some at.plan) same where_is.plan) ∙ e) in
+      let t : at.table ≡ x = same_Some at.table x (sym (subst (λ n. slice_get old.tables n ≡ Some at.table) same where_is.table) ∙ k) in
       rw (same, q, t) refl
 
   -- the first record of a table without one has a key above all that was written, or not
@@ -275,7 +273,7 @@ module _ (Bad : Type 0) (config : Config) (p : ℕ) (plan : Plan) (written : Lis
       step-done c (sealed_pages plan x c) _ (writes-here Bad plan written x c) (left-at Bad written x.rows.next (sealed_pages plan x c) p done [] all tables t split at) h.after_is
   loads-here c step seed (suc turns) i s loaded device tables done all t e split new at h =
       with-option (slice_get tables p) _ _ _ (λ q says. stops says.after_is)
-      (λ u q g. turn (subst Turn (sym (same-table tables p t u at.is q)) g) (λ next_device left split at rest.
+      (λ u q g. turn (subst Turn (sym (same_Some t u (sym at.is ∙ q))) g) (λ next_device left split at rest.
       loads-here c step seed turns (i + 1) (next_random s) (loaded + 1) next_device left (done ++ put_pages plan t) (all ++ item ∷ []) (put_record plan item t) e split (λ some ok empty. absurd (put-some plan item t empty)) at rest)) h
     where
       pages : List (List Record)

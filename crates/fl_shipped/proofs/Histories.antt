@@ -10,7 +10,7 @@ use Rattle.fl_machine.specs.Machine.{Machine, begins, fresh_tables}
 use Rattle.fl_machine.specs.Run.{Run, end_of}
 use Rattle.fl_machine.specs.Script.{StandsFor}
 use Rattle.fl_machine.specs.Step.{Located, Moment, located_from}
-use Rattle.fl_machine.proofs.LoggedSteps.{located-is}
+use Rattle.fl_machine.proofs.LoggedPuts.{located-is}
 use Rattle.fl_model.specs.Record.{Config, Plan, Record, bytes_equal}
 use Rattle.fl_model.specs.Ship as model
 use Rattle.fl_model.specs.Ship.{CopyRests, IsPart, KeepsOf, Shipment, records_in}

@@ -4,10 +4,10 @@ use Rattle.std.specs.List.{AllByRecursion, last_or}
 use Rattle.std.proofs.lemmas.Bool.{cases_lt}
 use Rattle.std.proofs.lemmas.List.{drop_all, drop-append-le, drop-drop}
 use Rattle.std.proofs.Math.Seq.{drop-length}
-use Rattle.fl_machine.proofs.Logs.{all_front}
 use Rattle.fl_model.specs.Record.{Record}
 use Rattle.fl_model.specs.Ship.{Ascends}
-use Rattle.fl_model.proofs.Lists.{all-back}
+use Rattle.fl_model.proofs.Lists.{each-back, each-front, each-push, each-append, each-drop}
+use Rattle.fl_model.proofs.CopiesAreParts.{ascends-front}
 
 -- ---- lists of which the oldest records went
 
@@ -35,10 +35,6 @@ from-more whole part more h = record {
 
 -- ---- keys that ascend
 
-pub ascends-front : (xs ys : List Record) → Ascends (xs ++ ys) → Ascends xs
-ascends-front [] ys h = tt
-ascends-front (x ∷ xs) ys h = (all_front (λ (other : Record). x.key < other.key) xs ys h.0, ascends-front xs ys h.1)
-
 -- one more with a key above the last
 pub ascends-push : (xs : List Record) (item : Record) → Ascends xs → ((last : Record) → last_or None xs ≡ Some last → last.key < item.key) → Ascends (xs ++ item ∷ [])
 ascends-push [] item h above = (tt, tt)
@@ -46,20 +42,12 @@ ascends-push (x ∷ []) item h above = ((above x refl, tt), (tt, tt))
 ascends-push (x ∷ y ∷ ys) item h above =
     let rest = ascends-push (y ∷ ys) item h.1 above in
     let next : x.key < y.key = h.0.0 in
-    let last : y.key < item.key = (all-back (λ (other : Record). y.key < other.key) ys (item ∷ []) rest.0).0 in
-    ((next, all-push ys (item ∷ []) h.0.1 (omega (arith, next, last), tt)), rest)
-  where
-    all-push : (zs more : List Record) → AllByRecursion (λ (other : Record). x.key < other.key) zs → AllByRecursion (λ (other : Record). x.key < other.key) more → AllByRecursion (λ (other : Record). x.key < other.key) (zs ++ more)
-    all-push [] more h k = k
-    all-push (z ∷ zs) more h k = (h.0, all-push zs more h.1 k)
+    let last : y.key < item.key = (each-back (λ (other : Record). y.key < other.key) ys (item ∷ []) rest.0).0 in
+    ((next, each-push (λ (other : Record). x.key < other.key) ys item h.0.1 (omega (arith, next, last))), rest)
 
 -- some go in between
 all-less : (P : Record → Type 0) (xs ys : List Record) (n : ℕ) → AllByRecursion P (xs ++ ys) → AllByRecursion P (xs ++ drop n ys)
-all-less P [] [] zero h = tt
-all-less P [] [] (suc n) h = tt
-all-less P [] (y ∷ ys) zero h = h
-all-less P [] (y ∷ ys) (suc n) h = all-less P [] ys n h.1
-all-less P (x ∷ xs) ys n h = (h.0, all-less P xs ys n h.1)
+all-less P xs ys n h = each-append P xs (drop n ys) (each-front P xs ys h) (each-drop P n ys (each-back P xs ys h))
 
 pub ascends-less : (xs ys : List Record) (n : ℕ) → Ascends (xs ++ ys) → Ascends (xs ++ drop n ys)
 ascends-less [] [] zero h = tt

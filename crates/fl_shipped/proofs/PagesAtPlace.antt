@@ -7,9 +7,9 @@ use Rattle.fl_model.specs.Record.{Plan, Record}
 use Rattle.fl_model.specs.Table.{RingName, Table, flushed, join_seals, make_room_seals, put_joined, put_record}
 use Rattle.fl_model.specs.Within.{at_place, seals_within}
 use Rattle.fl_model.specs.Work.{CutShort, Device, Failed, Finished, Operation, Outcome, Performs, Progress, changed_at, operations_of}
-use Rattle.fl_model.proofs.Among.{seals-at}
-use Rattle.fl_machine.proofs.LogMoves.{EndsAt, all-at, changed_at-elsewhere, changed_at-there, performs-elsewhere, performs-here, strip-at}
-use Rattle.fl_machine.proofs.LogTables.{Goes}
+use Rattle.fl_model.proofs.Among.{seals-at, changed_at-elsewhere, changed_at-there}
+use Rattle.fl_machine.proofs.LogMoves.{EndsAt, all-at, performs-elsewhere, performs-here, strip-at}
+use Rattle.fl_machine.proofs.LogOperations.{Goes}
 use Rattle.fl_machine.proofs.Logs.{core}
 use Rattle.fl_shipped.specs.Growing.{flush_pages, paged_records, put_pages, waiting_records}
 use Rattle.fl_shipped.proofs.SealedPages.{Halts, IsUnderway, SealedIn, flush-goes, join-goes, put-joins, room-goes}

@@ -2,12 +2,10 @@
 use Rattle.std.proofs.Common.{◌≡◌, List, [], ◌∷◌, ◌++◌, refl, sym, ◌∙◌, ap, subst, inr}
 use Rattle.std.specs.List.{AllByRecursion}
 use Rattle.std.proofs.lemmas.List.{append-nil, append_assoc}
-use Rattle.fl_machine.proofs.Logs.{all_weaker}
 use Rattle.fl_model.specs.Record.{Record}
 use Rattle.fl_model.specs.Ship.{Ascends, IsPart, IsWhole, Shipment, ShipmentStep, Shipments, nothing_yet}
-use Rattle.fl_model.proofs.Lists.{each-push, all-back}
-use Rattle.fl_model.proofs.CopiesAreParts.{parts}
-use Rattle.fl_shipped.proofs.Orders.{ascends-front}
+use Rattle.fl_model.proofs.Lists.{each-push, each-back, each-weaker}
+use Rattle.fl_model.proofs.CopiesAreParts.{parts, ascends-front}
 
 -- steps that led from nothing to this shipment; all that was written before begins what was ever written
 pub record Past (now : Shipment) : Type 0 where
@@ -24,7 +22,7 @@ past-more now next more e step past = record {
   before = past.before ++ now ∷ [];
   steps = steps-more nothing_yet past.before now next past.steps step;
   written = each-push (λ (s : Shipment). (others : List Record) × (next.ever ≡ s.ever ++ others)) past.before now
-      (all_weaker (λ (s : Shipment). (others : List Record) × (now.ever ≡ s.ever ++ others)) (λ (s : Shipment). (others : List Record) × (next.ever ≡ s.ever ++ others))
+      (each-weaker (λ (s : Shipment). (others : List Record) × (now.ever ≡ s.ever ++ others)) (λ (s : Shipment). (others : List Record) × (next.ever ≡ s.ever ++ others))
       (λ s h. (h.0 ++ more, e ∙ (ap (λ (rs : List Record). rs ++ more) h.1 ∙ append_assoc s.ever h.0 more))) past.before past.written)
       (more, e);
 }
@@ -42,7 +40,7 @@ past-begins = record {
 
 pub past-part : (now : Shipment) → Past now → Ascends now.ever → IsPart now.copy now.ever
 past-part now past a =
-    (all-back IsWhole past.before (now ∷ [])
+    (each-back IsWhole past.before (now ∷ [])
     (parts (past.before ++ now ∷ []) past.steps
     (each-push (λ (s : Shipment). Ascends s.ever) past.before now
-    (all_weaker (λ (s : Shipment). (more : List Record) × (now.ever ≡ s.ever ++ more)) (λ (s : Shipment). Ascends s.ever) (λ s h. ascends-front s.ever h.0 (subst Ascends h.1 a)) past.before past.written) a))).0
+    (each-weaker (λ (s : Shipment). (more : List Record) × (now.ever ≡ s.ever ++ more)) (λ (s : Shipment). Ascends s.ever) (λ s h. ascends-front s.ever h.0 (subst Ascends h.1 a)) past.before past.written) a))).0

@@ -3,7 +3,7 @@ use Rattle.std.proofs.Common.{◌≡◌, ℕ, ◌+◌, ◌-◌, Bool, true, fals
 use Rattle.std.specs.List.{slice_get}
 use Rattle.std.specs.Option.{option_map, unwrap_or}
 use Rattle.std.proofs.lemmas.List.{append-nil, append_assoc, drop-drop, length-map}
-use Rattle.std.proofs.lemmas.Option.{slice_get-map}
+use Rattle.std.proofs.lemmas.Option.{slice_get-map, same_Some}
 use Rattle.std.proofs.Math.Seq.{drop-append_seam, drop-length, take-nil}
 use Rattle.fl_model.specs.Mount.{MountEnd, Mounted, Mounts, Stopped, Unread, turns_from}
 use Rattle.fl_model.specs.Record.{Config, Plan, Record, has_log}
@@ -18,14 +18,14 @@ use Rattle.fl_words.specs.Reply as reply
 use Rattle.fl_words.specs.Reply.{Reply}
 use Rattle.fl_machine.specs.Machine.{Machine, stopped}
 use Rattle.fl_machine.specs.Run.{Run, end_of}
-use Rattle.fl_machine.specs.Step.{EndsAs, EndsMount, Moment, Says, StepOf, cursor_at, no_column}
-use Rattle.fl_machine.proofs.LoggedSteps.{with-mounted, with-option, with-table}
+use Rattle.fl_machine.specs.Step.{EndsAs, EndsMount, Moment, Says, StepOf}
+use Rattle.fl_machine.proofs.StepCases.{IsQuiet, quiet-step, with-table}
 use Rattle.fl_shipped.specs.Growing.{RunsGrow, paged_records, waiting_records, table_at, written_by, written_in}
 use Rattle.fl_ship.proofs.MountDrops.{DropsOldest, IsLeft, lose-drops, mount-drops, mounted-drops}
 use Rattle.fl_shipped.proofs.SealedPages.{joined, records}
 use Rattle.fl_shipped.proofs.Orders.{InOrder, drops-from, from-drop, order-front, order-less}
 use Rattle.fl_shipped.specs.Ascending.{KeysAscend, TakesLower, TakesLowerIn}
-use Rattle.fl_shipped.proofs.CommandWrites.{Kept, StepKeeps, flush-keeps, kept-none, load-keeps, lost-keeps, put-keeps, same-table, step-stays}
+use Rattle.fl_shipped.proofs.CommandWrites.{Kept, StepKeeps, flush-keeps, kept-none, load-keeps, lost-keeps, put-keeps, step-stays}
 
 -- ---- mounts
 
@@ -61,6 +61,9 @@ oldest-keeps Bad all x y h kept =
 module _ (Bad : Type 0) (config : Config) (p : ℕ) (plan : Plan) (written : List Record) (x : Table) (old : Machine) (m : Moment) where
   stays : (c : Command) (new : Machine) → slice_get old.tables p ≡ Some x → Kept Bad written x → m.after ≡ new → new.tables ≡ old.tables → StepKeeps Bad plan p written x m c
   stays c new k kept e s = step-stays Bad config p plan written x old m c new k kept e s
+
+  quiet : (c : Command) → IsQuiet c → slice_get old.tables p ≡ Some x → Kept Bad written x → StepOf config old m c → StepKeeps Bad plan p written x m c
+  quiet c q k kept h = stays c m.after k kept refl (quiet-step config old m c q h).tables
 
   -- a mount writes no records
   mount-none : (y : Table) → written_by plan x y command.Mount ≡ []
@@ -105,14 +108,14 @@ module _ (Bad : Type 0) (config : Config) (p : ℕ) (plan : Plan) (written : Lis
   -- ---- each step
 
   step-keeps : (c : Command) → m.command ≡ c → (TakesLower config p plan written old m → Bad) → slice_get config.plans p ≡ Some plan → has_log plan ≡ false → slice_get old.tables p ≡ Some x → Kept Bad written x → StepOf config old m c → StepKeeps Bad plan p written x m c
-  step-keeps command.Nothing same bad e none k kept h = stays command.Nothing _ k kept h.after_is refl
+  step-keeps command.Nothing same bad e none k kept h = quiet command.Nothing tt k kept h
   step-keeps command.Mount same bad e none k kept h = by_test old.mounted h
     where
       by_test : (b : Bool) → MatchBool b (Says m (reply.AlreadyMounted ∷ []) old) ((how : MountEnd) × Mounts config.plans m.rose (turns_from 0 config.plans) old.device old.tables how × EndsMount config old m how) → StepKeeps Bad plan p written x m command.Mount
       by_test true h = stays command.Mount _ k kept h.after_is refl
       by_test false (how, did, ends) = mount-keeps how e none k kept did ends
   step-keeps command.Off same bad e none k kept h = off-keeps k kept h.after_is
-  step-keeps (command.Cut n kind) same bad e none k kept h = stays (command.Cut n kind) _ k kept h.after_is refl
+  step-keeps (command.Cut n kind) same bad e none k kept h = quiet (command.Cut n kind) tt k kept h
   step-keeps (command.Put name key values blob) same bad e none k kept h =
       let c = command.Put name key values blob in
       with-table config old m name _ _
@@ -126,55 +129,18 @@ module _ (Bad : Type 0) (config : Config) (p : ℕ) (plan : Plan) (written : Lis
       with-table config old m name _ _
       (λ at q b g. load-keeps Bad config p plan written x old m name count step seed at same bad b q e k kept g)
       (λ r s. stays (command.Load name count step seed) old k kept s.after_is refl) h
-  step-keeps (command.Get name key) same bad e none k kept h =
-      let c = command.Get name key in
-      with-table config old m name _ _ (λ at q b g. stays c _ k kept g.0 refl) (λ r s. stays c _ k kept s.after_is refl) h
-  step-keeps (command.Blob name key) same bad e none k kept h =
-      let c = command.Blob name key in
-      with-table config old m name _ _ (λ at q b g. stays c _ k kept g.0 refl) (λ r s. stays c _ k kept s.after_is refl) h
-  step-keeps (command.Scan name range span) same bad e none k kept h =
-      let c = command.Scan name range span in
-      with-table config old m name _ _ (λ at q b g. stays c _ k kept g.0 refl) (λ r s. stays c _ k kept s.after_is refl) h
-  step-keeps (command.Open cursor name range span) same bad e none k kept h =
-      let c = command.Open cursor name range span in
-      with-table config old m name _ _ (λ at q b g. stays c _ k kept g.after_is refl) (λ r s. stays c _ k kept s.after_is refl) h
-  step-keeps (command.Next cursor count) same bad e none k kept h =
-      let c = command.Next cursor count in
-      with-mounted old m _ _
-      (λ b g. with-option (cursor_at old cursor) _ _ _ (λ q s. stays c _ k kept s.after_is refl)
-      (λ open_cursor q g. with-option (slice_get config.plans open_cursor.table) _ _ _ (λ q s. stays c _ k kept s.after_is refl)
-      (λ own q g. with-option (slice_get old.tables open_cursor.table) _ _ _ (λ q s. stays c _ k kept s.after_is refl)
-      (λ table q g. stays c _ k kept g.1.2 refl) g) g) g)
-      (λ s. stays c _ k kept s.after_is refl) h
-  step-keeps (command.Close cursor) same bad e none k kept h =
-      let c = command.Close cursor in
-      with-mounted old m _ _
-      (λ b g. with-option (cursor_at old cursor) _ _ _ (λ q s. stays c _ k kept s.after_is refl) (λ open_cursor q s. stays c _ k kept s.after_is refl) g)
-      (λ s. stays c _ k kept s.after_is refl) h
-  step-keeps (command.Select name range column op value) same bad e none k kept h =
-      let c = command.Select name range column op value in
-      with-table config old m name _ _
-      (λ at q b g. with-option (no_column at.plan (column ∷ [])) _ _ _ (λ q g. stays c _ k kept g.0 refl) (λ _ q s. stays c _ k kept s.after_is refl) g)
-      (λ r s. stays c _ k kept s.after_is refl) h
-  step-keeps (command.Project name range columns) same bad e none k kept h =
-      let c = command.Project name range columns in
-      with-table config old m name _ _
-      (λ at q b g. with-option (no_column at.plan columns) _ _ _ (λ q g. stays c _ k kept g.0 refl) (λ _ q s. stays c _ k kept s.after_is refl) g)
-      (λ r s. stays c _ k kept s.after_is refl) h
-  step-keeps (command.Agg name range column width) same bad e none k kept h =
-      let c = command.Agg name range column width in
-      with-table config old m name _ _
-      (λ at q b g. with-option (no_column at.plan (column ∷ [])) _ _ _ (λ q g. stays c _ k kept g.0 refl) (λ _ q s. stays c _ k kept s.after_is refl) g)
-      (λ r s. stays c _ k kept s.after_is refl) h
-  step-keeps (command.Join left right range) same bad e none k kept h =
-      let c = command.Join left right range in
-      with-table config old m left _ _
-      (λ at q b g. with-table config old m right _ _ (λ at q b g. stays c _ k kept g.0 refl) (λ r s. stays c _ k kept s.after_is refl) g)
-      (λ r s. stays c _ k kept s.after_is refl) h
-  step-keeps (command.Stat name) same bad e none k kept h =
-      let c = command.Stat name in
-      with-table config old m name _ _ (λ at q b g. stays c _ k kept g.after_is refl) (λ r s. stays c _ k kept s.after_is refl) h
-  step-keeps command.Cost same bad e none k kept h = stays command.Cost _ k kept h.after_is refl
+  step-keeps (command.Get name key) same bad e none k kept h = quiet (command.Get name key) tt k kept h
+  step-keeps (command.Blob name key) same bad e none k kept h = quiet (command.Blob name key) tt k kept h
+  step-keeps (command.Scan name range span) same bad e none k kept h = quiet (command.Scan name range span) tt k kept h
+  step-keeps (command.Open cursor name range span) same bad e none k kept h = quiet (command.Open cursor name range span) tt k kept h
+  step-keeps (command.Next cursor count) same bad e none k kept h = quiet (command.Next cursor count) tt k kept h
+  step-keeps (command.Close cursor) same bad e none k kept h = quiet (command.Close cursor) tt k kept h
+  step-keeps (command.Select name range column op value) same bad e none k kept h = quiet (command.Select name range column op value) tt k kept h
+  step-keeps (command.Project name range columns) same bad e none k kept h = quiet (command.Project name range columns) tt k kept h
+  step-keeps (command.Agg name range column width) same bad e none k kept h = quiet (command.Agg name range column width) tt k kept h
+  step-keeps (command.Join left right range) same bad e none k kept h = quiet (command.Join left right range) tt k kept h
+  step-keeps (command.Stat name) same bad e none k kept h = quiet (command.Stat name) tt k kept h
+  step-keeps command.Cost same bad e none k kept h = quiet command.Cost tt k kept h
   step-keeps (command.Device page block) same bad e none k kept h = absurd h
   step-keeps (command.Table line) same bad e none k kept h = absurd h
 
@@ -216,7 +182,7 @@ grow config old moments place plan before after e none k run l =
     let drop_none = drops-none (paged_records before) in
     let start : Kept (Unit {0}) (paged_records before) before = record { kept = drops-from (paged_records before) (paged_records before) drop_none.gone drop_none.is; order = inr tt } in
     let left = run-keeps (Unit {0}) config place plan (paged_records before) before old moments (λ h. tt) e none k start run in
-    let kept = subst (λ (t : Table). Kept (Unit {0}) (paged_records before ++ written_in plan place old moments) t) (same-table (end_of old moments).tables place left.table after left.is l) left.kept in
+    let kept = subst (λ (t : Table). Kept (Unit {0}) (paged_records before ++ written_in plan place old moments) t) (same_Some left.table after (sym left.is ∙ l)) left.kept in
     record { given_up = kept.kept.given_up; is = kept.kept.is }
 
 pub ascends-on : (config : Config) (old : Machine) (moments : List Moment) (place : ℕ) (plan : Plan) (before : Table) (written : List Record) → slice_get config.plans place ≡ Some plan → has_log plan ≡ false → slice_get old.tables place ≡ Some before →

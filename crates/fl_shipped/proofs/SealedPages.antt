@@ -12,8 +12,10 @@ use Rattle.fl_model.specs.Table.{Table, Entry, RingName, DataRing, IndexRing, Va
 use Rattle.fl_model.specs.Within.{seals_within}
 use Rattle.fl_model.proofs.Sealed.{sealed-next}
 use Rattle.fl_model.proofs.ShipWork.{map-append, map-drop}
+use Rattle.fl_model.proofs.Lists.{push_not_nil}
 use Rattle.fl_machine.proofs.Logs.{Core, core, front_of, rest_of}
-use Rattle.fl_machine.proofs.LogTables.{Goes, data-goes, goes-seals, index-goes, log-goes, seals_by, takes, var-goes}
+use Rattle.fl_machine.proofs.LogOperations.{Goes, data-goes, goes-seals, index-goes, log-goes, var-goes}
+use Rattle.fl_machine.proofs.LogTables.{seals_by, takes}
 use Rattle.fl_ship.proofs.Lasts.{IsOtherRing, joined-rings, last-drop}
 use Rattle.fl_shipped.specs.Growing.{flush_pages, paged_records, put_pages, waiting_records}
 use Rattle.fl_shipped.proofs.Orders.{DropsFrom, InOrder, from-drop, from-more, order-push}
@@ -143,11 +145,7 @@ others-entries plan (LogRing ∷ rings) t o = others-entries plan rings (after_s
 pub put-some : (plan : Plan) (item : Record) (t : Table) → (put_record plan item t).entries ≡ [] → ⊥
 put-some plan item t e =
     let joined = put_joined plan item t in
-    some _ (with_room plan t).entries (sym (others-entries plan (join_seals plan joined) joined (joined-rings plan joined)) ∙ e)
-  where
-    some : (new : Entry) (es : List Entry) → es ++ new ∷ [] ≡ [] → ⊥
-    some new [] e = cc
-    some new (x ∷ es) e = cc
+    push_not_nil (with_room plan t).entries _ (sym (others-entries plan (join_seals plan joined) joined (joined-rings plan joined)) ∙ e)
 
 -- ---- the operations of seals
 

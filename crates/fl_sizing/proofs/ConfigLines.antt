@@ -25,9 +25,6 @@ pub record Passed (text : List ℕ) (now : Lines) (k number : ℕ) : Type 0 wher
   pub numbered : number ≡ k + 1
   pub starts : (knots : ℕ) → start_of knots (line_parts text) ≡ start_from knots (k + 1) now (drop k (line_parts text))
 
-pub passed-none : (text : List ℕ) (now : Lines) (number : ℕ) → now ≡ no_lines → number ≡ 1 → Passed text now 0 number
-passed-none text now number none one = record { numbered = one; starts = λ knots. ap (λ (l : Lines). start_from knots 1 l (line_parts text)) (sym none) }
-
 pub passed-line : (text : List ℕ) (now : Lines) (k number : ℕ) (line : List ℕ) → Passed text now k number → k < length (line_parts text) → line ≡ get_or (line_parts text) k line → Reaches text now line number
 passed-line text now k number line h lt is = record {
   others = drop (k + 1) (line_parts text);

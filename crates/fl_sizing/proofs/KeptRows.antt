@@ -1,11 +1,13 @@
 -- How many pages and rows a ring keeps, and what is enough for an index.
-use Rattle.std.proofs.Common.{◌≡◌, ℕ, zero, suc, ◌+◌, ◌-◌, ◌*◌, ◌%◌, ◌<◌, ◌≤◌, ◌⊎◌, inl, inr, Bool, true, false, cond, ◌&&◌, IsTrue, List, [], ◌∷◌, ◌++◌, length, drop, refl, sym, ◌∙◌, ap, subst, arith, length-append, max}
+use Rattle.std.proofs.Common.{◌≡◌, ℕ, zero, suc, ◌+◌, ◌-◌, ◌*◌, ◌%◌, ◌<◌, ◌≤◌, ◌⊎◌, inl, inr, Bool, true, false, cond, IsTrue, List, [], ◌∷◌, ◌++◌, length, drop, refl, sym, ◌∙◌, ap, subst, arith, length-append, max}
 use Rattle.std.specs.Prelude.{min, replicate, if◌then◌else◌}
 use Rattle.std.specs.List.{AllByRecursion, sum}
 use Rattle.std.proofs.Math.Nat.{add-mul, mod-add-div', mul-le-mul_right, mul-le-mul_left}
 use Rattle.std.proofs.lemmas.Bool.{cases_lt, false≢true}
 use Rattle.std.proofs.lemmas.List.Sums.{sum_by-cons}
 use Rattle.std.proofs.lemmas.Nat.{mod_below}
+use Rattle.std.proofs.lemmas.List.{length-replicate}
+use Rattle.fl_base.proofs.Tests.{and_false}
 use Rattle.fl_model.specs.Record.{Plan, has_index, rows_per_page, entries_per_page}
 use Rattle.fl_model.specs.Ring.{Shape, IsShape, Ring, IsRing, fresh, sealed, extended, erased, is_full}
 use Rattle.fl_model.specs.MountLimit.{ring_mount_limit, voids_at_end}
@@ -25,12 +27,8 @@ ring-erased shape ring h = record {
   kept = h.kept;
   kept_at_end = h.kept_at_end;
   dirty_at_end = λ d. absurd (false≢true d);
-  not_both = neither ring.torn;
+  not_both = and_false ring.torn;
 }
-  where
-    neither : (b : Bool) → IsTrue (b && false) → ⊥
-    neither true d = false≢true d
-    neither false d = false≢true d
 
 -- a ring keeps all but two of its pages at most
 pub kept-most : (shape : Shape) (ring : Ring) → IsShape shape → IsRing shape ring → length ring.counts ≤ most_pages shape
@@ -91,10 +89,6 @@ sum-all r (x ∷ xs) h =
     let times : r * suc (length xs) ≡ r * length xs + r = omega arith in
     omega (arith, h.0, others, first, times)
 
-length-replicated : (n x : ℕ) → length (replicate n x) ≡ n
-length-replicated zero x = refl
-length-replicated (suc n) x = ap suc (length-replicated n x)
-
 -- so it is with the rows of full pages
 pub rows-stay : (plan : Plan) (n : ℕ) → IsShape (shape_of plan DataRing) →
     min (rows_per_page plan * n) (rows_kept plan) ≤ sum (sealed_all (shape_of plan DataRing) (replicate n (rows_per_page plan)) fresh).counts
@@ -113,7 +107,7 @@ rows-stay plan n is = by_order (cases_lt n least)
     total = sum-all r counts (each-seals (λ count. count ≡ r) (shape_of plan DataRing) r n fresh tt refl)
 
     keeps : min n least ≤ length counts
-    keeps = let k = (keeps-pages (shape_of plan DataRing) (replicate n r) is).least in omega (arith, k, length-replicated n r)
+    keeps = let k = (keeps-pages (shape_of plan DataRing) (replicate n r) is).least in omega (arith, k, length-replicate n r)
 
     by_order : (n < least) ⊎ (least ≤ n) → min (r * n) (r * least) ≤ sum counts
     by_order (inl lt) = let m : r * n ≤ r * length counts = mul-le-mul_left r (omega (arith, keeps, lt)) in omega (arith, total, m)

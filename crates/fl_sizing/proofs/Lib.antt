@@ -1,8 +1,6 @@
-pub mod Chains
 pub mod KeptRows
 pub mod MountReads
 pub mod PlanEnds
-pub mod SourceToEnd
 pub mod Rows
 pub mod ConfigLines
 pub mod Tables

@@ -1,5 +1,5 @@
 -- How a plan ends.
-use Rattle.std.proofs.Common.{◌≡◌, ◌⊎◌, inl, inr, ℕ, ◌<◌, Option, Some, None, Result, Ok, Err, IfOk, IfErr, IsTrue, List, [], ◌∷◌, length, refl, sym, ◌∙◌, ap, subst}
+use Rattle.std.proofs.Common.{◌≡◌, ◌⊎◌, inl, inr, ℕ, ◌<◌, Option, Some, None, Err, IsTrue, List, [], ◌∷◌, length, refl, sym, ◌∙◌, ap, subst}
 use Rattle.fl_base.specs.declared.types.Geometry.{Geometry}
 use Rattle.fl_config.specs.Whole.{is_whole, is_whole_of}
 use Rattle.fl_machine.specs.Script.{Start, Ready, Unended, BadLine, BadConfig, start_of}
@@ -12,14 +12,6 @@ use Rattle.fl_sizing.specs.Text.{plan_text}
 use Rattle.fl_sizing.specs.declared.end.PlanEnd.{PlanEnd}
 use Rattle.fl_sizing.specs.declared.end.PlanStatus.{PlanStatus}
 use Rattle.fl_sizing.specs.declared.end.PlanStatus.TheVariants.{Done, Line, Config, InputRead, OutWrite, InputLong, NoMemory}
-
-pub if-ok : {A E : Type 0} (r : Result A E) (P Q : A → Type 0) → ((a : A) → P a → Q a) → IfOk r P → IfOk r Q
-if-ok (Ok a) P Q f h = f a h
-if-ok (Err e) P Q f h = tt
-
-pub if-err : {A E : Type 0} (r : Result A E) (P Q : E → Type 0) → ((e : E) → P e → Q e) → IfErr r P → IfErr r Q
-if-err (Ok a) P Q f h = tt
-if-err (Err e) P Q f h = f e h
 
 -- a status that a line has
 abbrev pub IsOfLine : PlanStatus → Type 0

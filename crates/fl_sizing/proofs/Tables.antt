@@ -1,28 +1,20 @@
 -- What is told of tables, one after another.
-use Rattle.std.proofs.Common.{◌≡◌, ℕ, zero, suc, ◌+◌, ◌<◌, Option, Some, IfSome, List, [], ◌∷◌, ◌++◌, length, take, sym, ◌∙◌, ap, subst, arith}
+use Rattle.std.proofs.Common.{◌≡◌, ℕ, ◌+◌, ◌<◌, Option, Some, IfSome, List, [], ◌∷◌, ◌++◌, length, take, sym, ◌∙◌, ap, subst}
 use Rattle.std.specs.List.{flat_map, slice_get, sum_by}
 use Rattle.std.proofs.lemmas.Grind.{flat_map-append}
 use Rattle.std.proofs.lemmas.List.Sums.{sum_by_push}
 use Rattle.std.proofs.lemmas.List.Concat.{flat_map-cons}
 use Rattle.std.proofs.lemmas.List.{append-nil}
-use Rattle.std.proofs.lemmas.Option.{none-some}
 use Rattle.fl_base.specs.declared.types.RingPlace.{RingPlace}
 use Rattle.fl_model.specs.Bare.{bare}
 use Rattle.fl_model.specs.Record.{Plan, blocks_of}
-use Rattle.fl_model.proofs.Lists.{slice_get-some}
+use Rattle.fl_model.proofs.Lists.{slice_get-some, take-one_more}
 use Rattle.fl_plan.specs.Plan.{Label, IsConfigOf, IsRingAt, blocks_in, label_of, plan_of_table, with_log}
 use Rattle.fl_plan.specs.declared.table_config.TableConfig.{TableConfig}
-use Rattle.fl_config.proofs.Made.{ring-blocks}
+use Rattle.fl_plan.proofs.RingPlaces.{ring-blocks}
 use Rattle.fl_sizing.specs.Sizes.{sizes_of}
 use Rattle.fl_sizing.specs.Text.{named_text, table_text}
 use Rattle.fl_sizing.specs.declared.sizes.TableSizes.{TableSizes}
-
-take-next : {X : Type 0} (xs : List X) (i : ℕ) (x : X) → slice_get xs i ≡ Some x → take (i + 1) xs ≡ take i xs ++ x ∷ []
-take-next [] i x e = absurd (none-some x e)
-take-next (y ∷ ys) zero x e = let s : Some y ≡ Some x = e in let same : y ≡ x = cc in ap (λ z. z ∷ []) same
-take-next (y ∷ ys) (suc i) x e =
-    let n : suc i + 1 ≡ suc (i + 1) = omega arith in
-    ap (λ k. take k (y ∷ ys)) n ∙ ap (λ l. y ∷ l) (take-next ys i x e)
 
 -- the place of the log of a table, or none
 abbrev pub LogIs : List Plan → ℕ → Option RingPlace → Type 0
@@ -46,7 +38,7 @@ next-sum f plans i config log n lt of logged exact =
     let at = slice_get-some plans i lt in
     let is : IsConfigOf config (bare at.0) = subst (λ (o : Option Plan). IfSome o (λ plan. IsConfigOf config (bare plan))) at.1 of in
     let same : n ≡ f at.0 = exact (label_of (bare at.0)) ∙ ap f (log-there config log at.0 is (log-is plans i log at.0 at.1 logged)) in
-    ap (sum_by f) (take-next plans i at.0 at.1) ∙ sum_by_push f (take i plans) at.0 ∙ ap (λ k. sum_by f (take i plans) + k) (sym same)
+    ap (sum_by f) (take-one_more plans i at.0 at.1) ∙ sum_by_push f (take i plans) at.0 ∙ ap (λ k. sum_by f (take i plans) + k) (sym same)
 
 -- .. and in what is told of them
 pub next-text : (interval : Option ℕ) (plans : List Plan) (i : ℕ) (name : List ℕ) (config : TableConfig) (log : Option RingPlace) (sizes : TableSizes) → i < length plans →
@@ -58,7 +50,7 @@ next-text interval plans i name config log sizes lt named of logged exact =
     let called : name ≡ at.0.name = subst (λ (o : Option Plan). IfSome o (λ plan. name ≡ plan.name)) at.1 named in
     let same : sizes ≡ sizes_of at.0 = exact (label_of (bare at.0)) ∙ ap sizes_of (log-there config log at.0 is (log-is plans i log at.0 at.1 logged)) in
     let before = flat_map (table_text interval) (take i plans) in
-    ap (flat_map (table_text interval)) (take-next plans i at.0 at.1)
+    ap (flat_map (table_text interval)) (take-one_more plans i at.0 at.1)
     ∙ flat_map-append (table_text interval) (take i plans) (at.0 ∷ [])
     ∙ ap (λ t. before ++ t) (flat_map-cons (table_text interval) at.0 [] ∙ append-nil (table_text interval at.0))
     ∙ ap (λ (n : List ℕ). before ++ named_text interval n (sizes_of at.0)) (sym called)

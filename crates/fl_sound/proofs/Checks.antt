@@ -6,6 +6,7 @@ use Rattle.std.proofs.lemmas.Bool.{true≢false}
 use Rattle.std.proofs.lemmas.Option.{same_Some}
 use Rattle.fl_base.specs.Causes.{IsFront, Appends, AppendsFront}
 use Rattle.fl_base.specs.declared.types.Geometry.{Geometry}
+use Rattle.fl_base.proofs.Appended.{front-longer}
 use Rattle.fl_config.specs.Whole.{Makes}
 use Rattle.fl_image_check.specs.Checking.{IsFound, AreFound, ImageEnds, CheckEnds, TellsSound as Tells}
 use Rattle.fl_image.specs.Header.{IsAccepted}
@@ -23,7 +24,7 @@ use Rattle.fl_words.specs.Medium.{IsImage, header}
 use Rattle.fl_check.specs.declared.finding.Finding.{Finding}
 use Rattle.fl_sound.specs.Sound.{sound_table, sound_text, TablesAreSound}
 use Rattle.fl_sound.specs.Sound as law
-use Rattle.fl_sound.proofs.Fronts.{all-of, report-front, front-nothing, front-all, front-longer}
+use Rattle.fl_sound.proofs.Fronts.{all-of, report-front, front-nothing, front-all}
 use Rattle.fl_image.proofs.Made.{made-by}
 use Rattle.fl_check.specs.Whole.{Finds}
 use Rattle.fl_sound.proofs.Scripts.{made}

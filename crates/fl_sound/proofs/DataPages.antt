@@ -9,7 +9,7 @@ use Rattle.fl_model.specs.Image.{rows_at}
 use Rattle.fl_model.specs.Record.{RowLayout}
 use Rattle.fl_model.specs.Row.{Row, stored_row}
 use Rattle.fl_model.specs.Table.{Table, Entry}
-use Rattle.fl_model.proofs.Lists.{slice_get-some, take_none}
+use Rattle.fl_model.proofs.Lists.{slice_get-some, take_none, take-next}
 use Rattle.fl_model.specs.BlobEnds.{blobs_end}
 use Rattle.fl_model.proofs.BlobEnds.{ends-append}
 use Rattle.fl_page.specs.Page.{rows_in}
@@ -22,7 +22,7 @@ use Rattle.fl_rules.specs.Tally.{tally_of}
 use Rattle.fl_rules.specs.declared.numbering.Numbering.{Numbering}
 use Rattle.fl_check.proofs.RingReads.{Reads}
 use Rattle.fl_sound.specs.Sound.{void_pages}
-use Rattle.fl_sound.proofs.Lists.{take-next, rows-behind, last-behind, ascends-behind, ascends-front}
+use Rattle.fl_sound.proofs.Lists.{rows-behind, last-behind, ascends-behind, ascends-front}
 
 pub voids-append : (a b : List ℕ) → void_pages (a ++ b) ≡ void_pages a + void_pages b
 voids-append a b = sum_by-append (λ (x : ℕ). cond (x == 0) 1 0) a b

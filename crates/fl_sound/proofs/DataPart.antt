@@ -3,6 +3,7 @@ use Rattle.std.proofs.Common.{◌≡◌, inl, inr, ℕ, zero, suc, ◌+◌, ◌-
 use Rattle.std.specs.List.{slice_get, sum}
 use Rattle.std.proofs.Math.Nat.{div-le_self}
 use Rattle.std.proofs.lemmas.Bool.{cases_lt, lt-ltb, ne_eqb, true≢false}
+use Rattle.fl_base.proofs.Tests.{zero_either}
 use Rattle.fl_bitmap.specs.Widths.{is_bits}
 use Rattle.fl_find.specs.Pages.{rows_where}
 use Rattle.fl_flash.specs.Flash.{FlashState, page_at}
@@ -14,7 +15,7 @@ use Rattle.fl_index.proofs.WaitingEntries.{plan_form, bitmap-small}
 use Rattle.fl_index.proofs.LookupsOfTable.{IsAt}
 use Rattle.fl_mark.specs.Mark.{state_of_page}
 use Rattle.fl_mark.specs.declared.page_state.PageState.{PageState}
-use Rattle.fl_mark.specs.declared.page_state.PageState.TheVariants.{Blank, Torn, Committed, Void}
+use Rattle.fl_mark.specs.declared.page_state.PageState.TheVariants.{Committed}
 use Rattle.fl_model.specs.Facts.{IsTable, FitsPlan}
 use Rattle.fl_model.specs.Agrees.{Tells}
 use Rattle.fl_model.specs.Image.{rows_at}
@@ -32,8 +33,8 @@ use Rattle.fl_page.proofs.WriterSteps.{layout_some}
 use Rattle.fl_plan.specs.Plan.{Label, blocks_in, plan_of_table}
 use Rattle.fl_plan.specs.declared.table_config.TableConfig.{TableConfig}
 use Rattle.fl_ring.specs.Mounting.{IsGood}
-use Rattle.fl_ring.specs.Newest.{commits}
 use Rattle.fl_ring.specs.Ring.{Shape, IsShape, OnRing, place}
+use Rattle.fl_ring.proofs.PageStates.{committed-is}
 use Rattle.fl_parts.specs.Pages.{Rests}
 use Rattle.fl_parts.specs.Reading.{bitmap_where}
 use Rattle.fl_parts.proofs.NotedEntries.{page-bitmap}
@@ -62,12 +63,6 @@ use Rattle.fl_sound.proofs.DataPages.{HaveRowsOf, keys-ascend}
 use Rattle.fl_sound.proofs.RingReads.{IsOf}
 use Rattle.fl_sound.proofs.RingSound.{SoundRing, AreFormed, sizes, sound-ring}
 use Rattle.fl_sound.proofs.Told.{fields-fit}
-
-state-committed : (s : PageState) → commits s ≡ true → s ≡ Committed
-state-committed Blank e = cc
-state-committed Torn e = cc
-state-committed Committed e = refl
-state-committed Void e = cc
 
 -- a flash that reaches to its end, and tells what it holds, stands for this table of the configuration
 pub record StandsOn (label : Label) (config : TableConfig) (f : FlashState) (table : Table) : Type 0 where
@@ -133,7 +128,7 @@ module _ (label : Label) (config : TableConfig) (f : FlashState) (table : Table)
 
   module _ (n : Numbering) (reads : Reads (page_at f) (rows_shape config) (index_end (plan_of_table label config) table) table.rows n) where
     state : (i c : ℕ) → slice_get table.rows.counts i ≡ Some c → 0 < c → state_of_page (page_at f (kept_page (rows_shape config) n.marks i)) ≡ Committed
-    state i c e some = state-committed (state_of_page (page_at f (kept_page (rows_shape config) n.marks i))) (reads.committed i c e ∙ lt-ltb 0 c some)
+    state i c e some = committed-is (state_of_page (page_at f (kept_page (rows_shape config) n.marks i))) (reads.committed i c e ∙ lt-ltb 0 c some)
 
     abbrev at : ℕ → List ℕ
     at i = page_at f (kept_page (rows_shape config) n.marks i)
@@ -216,11 +211,7 @@ module _ (label : Label) (config : TableConfig) (f : FlashState) (table : Table)
       void-told : (rows : List Entry) → rows ≡ [] → Tells (plan_of_table label config) rows entry → TellsVoid (found_at (plan_form (plan_of_table label config)) bytes j)
       void-told rows none tells =
           full-told (λ (full : code.Full). (bitmap_at (plan_form plan) bytes j ≡ 0) × (full_view full ≡ full_of [])) rows tells
-          (bitmap-read rows tells ∙ ap (bitmap_of plan) none ∙ no-bits (plan.bits == 0), ap (λ (es : List Entry). full_view (fields_of (full_of es))) none)
-        where
-          no-bits : (b : Bool) → ◌≡◌ {A = ℕ} (cond b 0 0) 0
-          no-bits true = refl
-          no-bits false = refl
+          (bitmap-read rows tells ∙ ap (bitmap_of plan) none ∙ zero_either (plan.bits == 0), ap (λ (es : List Entry). full_view (fields_of (full_of es))) none)
 
     -- what tells of the rows of a kept page tells of the page
     pub told : IsTrue (is_bits plan.bits) → (m c : ℕ) → slice_get table.rows.counts m ≡ Some c → (bytes : List ℕ) (j : ℕ) (entry : IndexEntry) → IsAt (plan_form (plan_of_table label config)) bytes j entry

@@ -24,6 +24,3 @@ module _ (told told_now : Option (List ℕ)) where
 
   pub front-all : (text : List ℕ) → Appends told told_now text → AppendsFront told told_now text
   front-all text h = (text, ([], append-nil text), h)
-
-  pub front-longer : (text whole : List ℕ) → IsFront text whole → AppendsFront told told_now text → AppendsFront told told_now whole
-  front-longer text whole is h = (h.0, (h.1.0 ++ is.0, sym (append_assoc h.0 h.1.0 is.0) ∙ ap (λ l. l ++ is.0) h.1.1 ∙ is.1), h.2)

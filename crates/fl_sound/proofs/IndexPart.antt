@@ -8,7 +8,7 @@ use Rattle.fl_base.specs.declared.types.RingPlace.{RingPlace}
 use Rattle.fl_bitmap.specs.Widths.{is_bits}
 use Rattle.fl_flash.specs.Flash.{FlashState, page_at}
 use Rattle.fl_index.specs.Standing.{HasIndex, HoldsIndex}
-use Rattle.fl_index.proofs.Lists.{below-end, first-at, firsts-length}
+use Rattle.fl_index.proofs.Lists.{below-end, firsts-length}
 use Rattle.fl_index.proofs.MountsInTable.{good-ring, state-len}
 use Rattle.fl_index.proofs.LookupsOfTable.{index-page}
 use Rattle.fl_index.proofs.State.{shape_in, full_count, HaveSize, Found, to-state, to-index}
@@ -20,6 +20,7 @@ use Rattle.fl_model.specs.Record.{Plan, entry_len, entries_per_page}
 use Rattle.fl_model.specs.Ring as model
 use Rattle.fl_model.specs.Table.{Table, IndexRing, shape_of, firsts, full_pages}
 use Rattle.fl_model.proofs.Lists.{slice_get-short, each-at}
+use Rattle.fl_model.proofs.FullIndex.{first-at}
 use Rattle.fl_plan.specs.Limits.{IsRingSize}
 use Rattle.fl_plan.specs.Plan.{Label, bits_in, blocks_in, plan_of_table}
 use Rattle.fl_plan.specs.declared.table_config.TableConfig.{TableConfig}

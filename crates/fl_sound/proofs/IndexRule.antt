@@ -18,7 +18,7 @@ use Rattle.fl_model.specs.Mount.{index_end}
 use Rattle.fl_model.specs.Record.{Plan, RowLayout, entries_per_page}
 use Rattle.fl_model.specs.Ring as model
 use Rattle.fl_model.specs.Table.{Table, firsts, full_pages}
-use Rattle.fl_model.proofs.Lists.{slice_get-some, last_or-push, take_none}
+use Rattle.fl_model.proofs.Lists.{slice_get-some, last_or-push, take_none, take-next}
 use Rattle.fl_ring.specs.Ring.{Shape}
 use Rattle.fl_check.specs.Entries.{IndexOver, entries_in, IsEntry, Lists, first_listed, HaveEntries}
 use Rattle.fl_rules.specs.Marks.{kept_page}
@@ -26,7 +26,6 @@ use Rattle.fl_rules.specs.Tally.{listed_to}
 use Rattle.fl_rules.specs.Told.{TellsPage}
 use Rattle.fl_rules.specs.declared.numbering.Numbering.{Numbering}
 use Rattle.fl_check.proofs.RingReads.{Reads}
-use Rattle.fl_sound.proofs.Lists.{take-next}
 
 -- an index page lists the data pages from its first one on, with entries that tell of them
 pub record ListsPages (plan : Plan) (table : Table) (ring : model.Ring) (i : ℕ) (page : List ℕ) : Type 0 where

@@ -1,20 +1,11 @@
 -- Parts of lists, one element after another.
-use Rattle.std.proofs.Common.{◌≡◌, ℕ, zero, suc, ◌+◌, Option, Some, List, [], ◌∷◌, ◌++◌, map, take, drop, refl, ◌∙◌, ap}
-use Rattle.std.specs.List.{slice_get}
+use Rattle.std.proofs.Common.{◌≡◌, ℕ, ◌+◌, Option, Some, List, [], ◌∷◌, ◌++◌, map, take, drop, refl, ◌∙◌, ap}
 use Rattle.std.proofs.lemmas.List.{map-append}
 use Rattle.std.proofs.Math.Seq.{take-add}
-use Rattle.std.proofs.lemmas.Option.{none-some, same_Some}
 use Rattle.fl_model.specs.Row.{Row, stored_row}
 use Rattle.fl_model.specs.Table.{Entry}
-use Rattle.fl_model.proofs.Lists.{take_none}
 use Rattle.fl_page.specs.Steps.{Ascends}
 use Rattle.fl_rules.specs.Rising.{last_in}
-
--- one more is taken
-pub take-next : {X : Type 0} (xs : List X) (i : ℕ) (x : X) → slice_get xs i ≡ Some x → take (suc i) xs ≡ take i xs ++ x ∷ []
-take-next {X} [] i x e = absurd (none-some x e)
-take-next {X} (y ∷ ys) zero x e = let same : y ≡ x = same_Some y x e in ap (λ (l : List X). y ∷ l) (take_none ys) ∙ ap (λ (z : X). z ∷ []) same
-take-next {X} (y ∷ ys) (suc i) x e = ap (λ (l : List X). y ∷ l) (take-next ys i x e)
 
 -- the rows of entries, and of those behind them
 pub rows-behind : (a c : ℕ) (entries : List Entry) → map stored_row (take (a + c) entries) ≡ map stored_row (take a entries) ++ map stored_row (take c (drop a entries))

@@ -17,8 +17,10 @@ use Rattle.fl_model.specs.Row.{le, stored_row}
 use Rattle.fl_model.specs.Table.{Table, Entry, LogRing, shape_of, full_pages, log_pages}
 use Rattle.fl_model.proofs.FullPages.{full-cons, full-one, full-void}
 use Rattle.fl_model.proofs.Lists.{slice_get-short, each-at}
+use Rattle.fl_model.proofs.StoredRows.{all-stored}
 use Rattle.fl_page.specs.Steps.{Ascends}
 use Rattle.fl_page.proofs.WriterSteps.{layout_some}
+use Rattle.fl_page.proofs.DataPages.{entries-ascend}
 use Rattle.fl_plan.specs.Limits.{IsRingSize}
 use Rattle.fl_plan.specs.Plan.{Label, blocks_in, plan_of_table, with_log}
 use Rattle.fl_plan.specs.declared.table_config.TableConfig.{TableConfig}
@@ -26,23 +28,24 @@ use Rattle.fl_plan.proofs.Fits.{row-fits}
 use Rattle.fl_ring.specs.Counts.{page_count}
 use Rattle.fl_ring.specs.Head.{one}
 use Rattle.fl_ring.specs.Mounting.{IsGood}
-use Rattle.fl_ring.specs.Newest.{number_of}
 use Rattle.fl_ring.specs.Numbers.{renumbered}
 use Rattle.fl_ring.specs.Ring.{Shape, RingState, IsShape, count, oldest, place as place_in}
+use Rattle.fl_ring.proofs.Bodies.{bodies-numbered, holds-some}
 use Rattle.fl_ring.proofs.Counts.{counts_length}
 use Rattle.fl_ring.proofs.GoodNumbers.{renumbered_some, renumbered_none}
+use Rattle.fl_ring.proofs.HeldPages.{IsStateOf}
 use Rattle.fl_ring.proofs.Images.{bytes_of}
 use Rattle.fl_ring.proofs.Heads.{one-is}
 use Rattle.fl_rlc.specs.Pages.{log_body, IsLogRing}
-use Rattle.fl_rlc.proofs.Bodies.{rows_of, bodies-at}
+use Rattle.fl_rlc.proofs.Bodies.{rows_of, IsBody, some-rows}
 use Rattle.fl_rlc.proofs.NewestRows.{log-page}
-use Rattle.fl_rlc.proofs.States.{state_of, IsStateOf, state-is, holds-some}
+use Rattle.fl_rlc.proofs.States.{state_of, state-is}
 use Rattle.fl_parts.proofs.Plain.{least-below}
 use Rattle.fl_rlc.proofs.MountsInTable.{body-number}
 use Rattle.fl_rules.specs.RingRules.{WithinPages, IsAscending}
 use Rattle.fl_check.specs.Whole.{Fits, shape_in, layout_in, IsLogForm, IsLogSound}
 use Rattle.fl_rules.specs.declared.numbering.Numbering.{Numbering}
-use Rattle.fl_check.proofs.KeptPages.{rows-storable, rows-plain, entries-ascend}
+use Rattle.fl_check.proofs.KeptPages.{rows-plain}
 use Rattle.fl_sound.proofs.RingReads.{IsOf}
 use Rattle.fl_sound.proofs.RingSound.{SoundRing, AreFormed, sizes, formed-bodies, sound-ring}
 
@@ -110,7 +113,7 @@ module _ (label : Label) (config : TableConfig) (at : RingPlace) (f : FlashState
 
   -- no record has a blob
   no-blobs : (rows : List Entry) → AllByRecursion (FitsPlan (with_log at.blocks (plan_of_table label config))) rows → (i : ℕ) (entry : Entry) (blob : List ℕ) → slice_get rows i ≡ Some entry → entry.kept.blob ≡ Some blob
-      → 0 < length blob → entry.page < 4294967295
+      → 0 < length blob → entry.page + 1 < 2 ^ 32
   no-blobs rows fit i entry blob e k some = absurd (true≢false (sym (subst (BlobFits plan entry) k (each-at (FitsPlan plan) rows i entry fit e).blob).0 ∙ is.no_var))
 
   module _ (ring : model.Ring) (ring_is : table.log ≡ Some ring) where
@@ -130,7 +133,7 @@ module _ (label : Label) (config : TableConfig) (at : RingPlace) (f : FlashState
     abbrev s : RingState
     s = state_of plan ring (log_pages table)
 
-    state : IsStateOf (shape_in config at) plan (page_at f) size shape refl small ring (log_pages table) (state_of plan ring (log_pages table))
+    state : IsStateOf (IsBody plan) rows_of (shape_in config at) (page_at f) ring (log_pages table) (state_of plan ring (log_pages table))
     state = state-is (shape_in config at) plan (page_at f) size shape refl small ring (log_pages table) pages-are
 
     is-of : IsOf (state_of plan ring (log_pages table)) ring
@@ -139,7 +142,7 @@ module _ (label : Label) (config : TableConfig) (at : RingPlace) (f : FlashState
       count = sym (counts_length rows_of s) ∙ ap (λ (x : model.Ring). length x.counts) state.counts;
       some = λ i c e.
           let short : i < count s = let k = slice_get-short ring.counts i c e in let n = counts_length rows_of s in let m = ap (λ (x : model.Ring). length x.counts) state.counts in omega (arith, k, n, m) in
-          counts-some s.kept i c (ap (λ (x : model.Ring). slice_get x.counts i) state.counts ∙ e) (holds-some plan s (log_pages table) state.bodies i short);
+          counts-some s.kept i c (ap (λ (x : model.Ring). slice_get x.counts i) state.counts ∙ e) (holds-some (IsBody plan) rows_of (some-rows plan) s (log_pages table) state.bodies i short);
     }
 
     -- its numbers fit
@@ -156,14 +159,7 @@ module _ (label : Label) (config : TableConfig) (at : RingPlace) (f : FlashState
     ]
 
     good : IsGood f (shape_in config at) 0 (state_of plan ring (log_pages table))
-    good = record { told = is.told; on = state.on; numbered = λ i lt. by_page i lt (get_or s.kept i None) refl; fits = number-fits }
-      where
-        by_page : (i : ℕ) → i < count (state_of plan ring (log_pages table)) → (x : Option (List ℕ)) → get_or (state_of plan ring (log_pages table)).kept i None ≡ x
-            → IfSome x (λ body. number_of body ≡ oldest (state_of plan ring (log_pages table)) + i)
-        by_page i lt None e = tt
-        by_page i lt (Some body) e =
-            let held = bodies-at plan (oldest s) s.kept (log_pages table) i body state.bodies e in
-            body-number plan (oldest s + i) held.rows body held.body_is (omega (arith, lt, state.on.ring.not_negative, pages-are.number))
+    good = record { told = is.told; on = state.on; numbered = bodies-numbered (IsBody plan) rows_of (some-rows plan) (body-number plan) s (log_pages table) state.bodies state.on.ring.not_negative (let k = pages-are.number in omega (arith, k)); fits = number-fits }
 
     -- ---- its pages
 
@@ -201,7 +197,7 @@ module _ (label : Label) (config : TableConfig) (at : RingPlace) (f : FlashState
           rows = map stored_row h.rows;
           some = omega (arith, many, h.count_is, some);
           few = rw (size (model.oldest ring + i)) (omega (arith, many, h.count_is, few));
-          storable = rows-storable plan h.rows (no-blobs h.rows h.fit.fit) h.fit.fit;
+          storable = all-stored plan h.rows (no-blobs h.rows h.fit.fit) h.fit.fit;
           plain = rows-plain plan h.rows h.fit.fit;
           bytes = h.bytes ∙ ap (λ (k : ℕ). committed (rows_body (k - 8) (row_layout plan) number 0 (map stored_row h.rows))) (sym (size (model.oldest ring + i)));
         }

@@ -1,5 +1,5 @@
 -- A flash on which a sound table lies stands for a table of the model, where the table is as runs leave it.
-use Rattle.std.proofs.Common.{◌≡◌, ℕ, ◌+◌, ◌-◌, ◌*◌, ◌%◌, ◌≤◌, ◌<◌, ◌++◌, ◌∷◌, Bool, false, cond, nat_lt, Option, Some, None, IfSome, List, [], length, map, filter, refl, sym, ◌∙◌, ap, subst, arith}
+use Rattle.std.proofs.Common.{◌≡◌, ℕ, ◌+◌, ◌-◌, ◌*◌, ◌%◌, ◌≤◌, ◌<◌, ◌∷◌, Bool, false, cond, nat_lt, Option, Some, None, IfSome, List, [], length, map, filter, refl, sym, ◌∙◌, ap, subst, arith}
 use Rattle.std.specs.List.{AllByRecursion, list_any, slice_get}
 use Rattle.std.proofs.lemmas.Bool.{true≢false}
 use Rattle.fl_base.specs.declared.types.Geometry.{Geometry}
@@ -18,9 +18,10 @@ use Rattle.fl_model.specs.Mount.{index_end, blob_end}
 use Rattle.fl_model.specs.Record.{Plan, blocks_of, rows_per_page}
 use Rattle.fl_model.specs.Ring.{Ring, IsRing, oldest}
 use Rattle.fl_model.specs.Table.{Table, Entry, RingName, DataRing, IndexRing, VarRing, LogRing, ring_of, has_rows, log_pages}
-use Rattle.fl_model.proofs.Lists.{each-weaker}
-use Rattle.fl_plan.specs.Plan.{Label, label_of, blocks_in, plan_of_table, with_log, IsRingAt}
+use Rattle.fl_model.proofs.Lists.{each-weaker, nil_front, nil_map}
+use Rattle.fl_plan.specs.Plan.{Label, label_of, blocks_in, plan_of_table, with_log}
 use Rattle.fl_plan.specs.declared.table_config.TableConfig.{TableConfig}
+use Rattle.fl_plan.proofs.RingPlaces.{ring-blocks, ring-first}
 use Rattle.fl_parts.specs.Blobs.{AreLed}
 use Rattle.fl_parts.specs.Mountable.{AreVoid, IsPaged}
 use Rattle.fl_parts.specs.Pages.{HoldsTable}
@@ -96,18 +97,10 @@ module _ (plan : Plan) (table : Table) (fit : PagesFit plan table) where
   bare-is none =
       let logged : table.logged ≡ [] = fit.logged_some (ap has_rows none) in
       let before : table.logged_before ≡ [] =
-      no_pages table.logged_before (cond (has_rows table.log) (table.logged ∷ []) []) (no_map (log_pages table) (fit.log_each ∙ ap (λ (o : Option Ring). filter (nat_lt 0) (counts_in o)) none)) in
+      nil_front table.logged_before (cond (has_rows table.log) (table.logged ∷ []) []) (nil_map (λ (rows : List Entry). length rows) (log_pages table) (fit.log_each ∙ ap (λ (o : Option Ring). filter (nat_lt 0) (counts_in o)) none)) in
       ap (λ (o : Option Ring). record table { log = o; logged = []; logged_before = [] }) (sym none)
       ∙ ap (λ (rows : List Entry). record table { logged = rows; logged_before = [] }) (sym logged)
       ∙ ap (λ (pages : List (List Entry)). record table { logged_before = pages }) (sym before)
-    where
-      no_map : (xs : List (List Entry)) → map (λ (rows : List Entry). length rows) xs ≡ [] → xs ≡ []
-      no_map [] e = refl
-      no_map (x ∷ xs) e = cc
-
-      no_pages : (xs ys : List (List Entry)) → xs ++ ys ≡ [] → xs ≡ []
-      no_pages [] ys e = refl
-      no_pages (x ∷ xs) ys e = cc
 
   bare-left : IsAsRunsLeave plan table → IsAsRunsLeave (bare plan) (bare_table table)
   bare-left left = record { numbers = record { each = each; listed = left.numbers.listed }; begin = left.begin }
@@ -298,18 +291,10 @@ module _ (label : Label) (config : TableConfig) (log : Option RingPlace) (f : Fl
 
 -- ---- any plan of the configuration
 
-log-blocks : (o : Option RingPlace) (begin blocks : ℕ) → IsRingAt o begin blocks → blocks_in o ≡ blocks
-log-blocks None begin blocks at = sym at
-log-blocks (Some place) begin blocks at = at.1
-
-log-begins_at : (o : Option RingPlace) (begin blocks : ℕ) → IsRingAt o begin blocks → IfSome o (λ place. place.first_block ≡ begin)
-log-begins_at None begin blocks at = tt
-log-begins_at (Some place) begin blocks at = at.0
-
 pub sound-mounts : SoundTablesMount
 sound-mounts config log f plan rows kept voids lies is =
     let own : plan_of_table (label_of (bare plan)) config ≡ bare plan = lies.config_is.is in
-    let blocks : blocks_in log ≡ plan.log_blocks = log-blocks log (config.rows.first_block + plan.data_blocks + plan.index_blocks + plan.var_blocks) plan.log_blocks lies.log_at in
+    let blocks : blocks_in log ≡ plan.log_blocks = ring-blocks log (config.rows.first_block + plan.data_blocks + plan.index_blocks + plan.var_blocks) plan.log_blocks lies.log_at in
     let same : with_log (blocks_in log) (plan_of_table (label_of (bare plan)) config) ≡ plan = ap (with_log (blocks_in log)) own ∙ ap (λ (n : ℕ). with_log n plan) blocks in
     let image = sound-images (label_of (bare plan)) config log f rows kept voids lies.fits lies.log_fits lies.reaches lies.tells is in
     subst (λ (p : Plan). HasTable config log f p rows kept voids) same
@@ -317,4 +302,4 @@ sound-mounts config log f plan rows kept voids lies is =
     (subst (λ (p : Plan). IfSome config.index (λ place. place.first_block ≡ config.rows.first_block + p.data_blocks)) (sym own) lies.config_is.index)
     (subst (λ (p : Plan). IfSome config.var (λ place. place.first_block ≡ config.rows.first_block + p.data_blocks + p.index_blocks)) (sym own) lies.config_is.var)
     (subst (λ (p : Plan). IfSome log (λ place. place.first_block ≡ config.rows.first_block + p.data_blocks + p.index_blocks + p.var_blocks)) (sym own)
-    (log-begins_at log (config.rows.first_block + plan.data_blocks + plan.index_blocks + plan.var_blocks) plan.log_blocks lies.log_at)))
+    (ring-first log (config.rows.first_block + plan.data_blocks + plan.index_blocks + plan.var_blocks) plan.log_blocks lies.log_at)))

@@ -17,6 +17,7 @@ use Rattle.fl_model.specs.Table.{Table, Entry, full_pages}
 use Rattle.fl_model.proofs.Lists.{slice_get-drop, slice_get-front, slice_get-some}
 use Rattle.fl_model.proofs.StandingPages.{stands-kept, kept-stands}
 use Rattle.fl_model.specs.BlobEnds.{reference_end, blobs_end}
+use Rattle.fl_find.proofs.Entries.{entry-row}
 use Rattle.fl_page.specs.Header.{page_count}
 use Rattle.fl_ring.specs.Newest.{commits, page_back}
 use Rattle.fl_ring.specs.Ring.{Shape, place}
@@ -54,11 +55,6 @@ ends-behind so_far (x ∷ rows) zero row e =
     let r : reference_end x.blob ≡ reference_end row.blob = ap (λ (y : Row). reference_end y.blob) same in
     omega (arith, k, r)
 ends-behind so_far (x ∷ rows) (suc i) row e = ends-behind (max so_far (reference_end x.blob)) rows i row e
-
-row-at : (entries : List Entry) (i : ℕ) (entry : Entry) → slice_get entries i ≡ Some entry → slice_get (map stored_row entries) i ≡ Some (stored_row entry)
-row-at [] i entry e = absurd (none-some entry e)
-row-at (x ∷ entries) zero entry e = ap (λ (y : Entry). Some (stored_row y)) (same_Some x entry e)
-row-at (x ∷ entries) (suc i) entry e = row-at entries i entry e
 
 -- where the blobs of a table stand
 pub record HasBlobs (plan : Plan) (table : Table) (ring : model.Ring) (at : ℕ → List ℕ) : Type 0 where
@@ -117,7 +113,7 @@ module _ (plan : Plan) (page : ℕ → List ℕ) (first blocks per_block least :
           | inr kept ↦ omega (arith, kept.2, same)
         ]
         | inr behind ↦
-            let end = ends-behind 0 (map stored_row table.entries) m (stored_row entry) (row-at table.entries m entry here) in
+            let end = ends-behind 0 (map stored_row table.entries) m (stored_row entry) (entry-row table.entries m entry here) in
             let one : reference_end (stored_row entry).blob ≡ entry.page + 1 = begins-there in
             omega (arith, behind, begins, end, one)
       ]

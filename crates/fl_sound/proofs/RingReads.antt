@@ -1,7 +1,7 @@
 -- What a check reads of a ring that a flash stands for, in the words of the model's ring.
-use Rattle.std.proofs.Common.{◌≡◌, ◌⊎◌, inl, inr, ℕ, zero, suc, ◌+◌, ◌-◌, ◌%◌, ◌<◌, ◌≤◌, Bool, true, false, ◌||◌, nat_lt, Option, Some, None, is_some, List, [], ◌∷◌, length, get_or, refl, ◌∙◌, ap, arith}
+use Rattle.std.proofs.Common.{◌≡◌, ◌⊎◌, inl, inr, ℕ, zero, suc, ◌+◌, ◌-◌, ◌%◌, ◌<◌, ◌≤◌, Bool, true, false, ◌||◌, nat_lt, Option, Some, None, is_some, List, [], ◌∷◌, length, get_or, ◌∙◌, ap, arith}
 use Rattle.std.specs.List.{slice_get, list_any}
-use Rattle.std.proofs.lemmas.Bool.{cases_Bool, lt-ltb, false≢true}
+use Rattle.std.proofs.lemmas.Bool.{cases_Bool, lt-ltb, false≢true, or_right}
 use Rattle.fl_flash.specs.Flash.{FlashState, page_at}
 use Rattle.fl_mark.specs.Mark.{state_of_page}
 use Rattle.fl_model.specs.Ring as model
@@ -29,11 +29,7 @@ pub record IsOf (s : RingState) (ring : model.Ring) : Type 0 where
 pub any_at : (xs : List (Option (List ℕ))) (i : ℕ) → is_some (get_or xs i None) ≡ true → list_any is_some xs ≡ true
 any_at [] i e = absurd (false≢true e)
 any_at (x ∷ xs) zero e = ap (λ (b : Bool). b || list_any is_some xs) e
-any_at (x ∷ xs) (suc i) e = or_true (is_some x) (list_any is_some xs) (any_at xs i e)
-  where
-    or_true : (a b : Bool) → b ≡ true → (a || b) ≡ true
-    or_true true b k = refl
-    or_true false b k = k
+any_at (x ∷ xs) (suc i) e = or_right (is_some x) (list_any is_some xs) (any_at xs i e)
 
 module _ (f : FlashState) (r : Shape) (at_least : ℕ) (s : RingState) (shape : IsShape r) (good : IsGood f r at_least s) (ring : model.Ring) (same : IsOf s ring)
     (n : Numbering) (numbered : IsNumbered (page_at f) r at_least n.marks n.next) where

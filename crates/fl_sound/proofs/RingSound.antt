@@ -1,18 +1,17 @@
 -- All rules of a ring hold where a flash stands for it, its pages have the form of its bodies, and its keys ascend.
-use Rattle.std.proofs.Common.{◌≡◌, ℕ, zero, suc, ◌+◌, ◌*◌, ◌%◌, ◌<◌, ◌≤◌, nat_lt, Option, Some, None, is_some, List, [], ◌∷◌, length, map, get_or, sym, ◌∙◌, ap, subst, arith}
+use Rattle.std.proofs.Common.{◌≡◌, ℕ, zero, suc, ◌+◌, ◌*◌, ◌<◌, ◌≤◌, nat_lt, Option, Some, None, is_some, List, [], ◌∷◌, length, map, get_or, sym, ◌∙◌, ap, subst, arith}
 use Rattle.std.specs.List.{slice_get}
 use Rattle.std.proofs.lemmas.Bool.{ltb-true, lt-ltb}
-use Rattle.std.proofs.Math.Nat.{mod-lt, mul-le-mul_right, add-mul}
 use Rattle.std.proofs.lemmas.Option.{none-some}
 use Rattle.fl_base.specs.declared.types.Geometry.{Geometry}
-use Rattle.fl_flash.specs.Flash.{FlashState, page_at, pages}
+use Rattle.fl_flash.specs.Flash.{FlashState, page_at}
 use Rattle.fl_flash.specs.Places.{extent}
 use Rattle.fl_model.specs.Ring as model
 use Rattle.fl_model.proofs.Lists.{slice_get-some}
 use Rattle.fl_ring.specs.Counts.{page_count}
 use Rattle.fl_ring.specs.Mounting.{IsGood}
 use Rattle.fl_ring.specs.Ring.{Shape, RingState, IsShape, place}
-use Rattle.fl_ring.proofs.Lengths.{page_length}
+use Rattle.fl_ring.proofs.Lengths.{ring_lengths}
 use Rattle.fl_rules.specs.Bodies.{HaveBodies}
 use Rattle.fl_rules.specs.Marks.{kept_page}
 use Rattle.fl_rules.specs.Numbering.{IsNumbered}
@@ -40,13 +39,7 @@ counts-some count_of some (x ∷ kept) (suc i) c e = counts-some count_of some k
 -- the pages of a ring on a flash have their size
 pub sizes : (f : FlashState) (g : Geometry) (first blocks : ℕ) → f.start + extent f.geometry f.blocks ≤ length f.media.content → g ≡ f.geometry → first + blocks ≤ f.blocks → 1 ≤ blocks → 1 ≤ g.block
     → (n : ℕ) → length (page_at f (place (record { first = first * g.block; blocks = blocks; per_block = g.block; size = g.page }) n)) ≡ g.page
-sizes f g first blocks reaches geometry within some block n =
-    let room : 0 < blocks * g.block = let k : 1 * g.block ≤ blocks * g.block = mul-le-mul_right g.block some in omega (arith, k, block) in
-    let small : n % (blocks * g.block) < blocks * g.block = mod-lt n room in
-    let all : (first + blocks) * g.block ≤ f.blocks * g.block = mul-le-mul_right g.block within in
-    let split : (first + blocks) * g.block ≡ first * g.block + blocks * g.block = add-mul first blocks g.block in
-    let pages_is : pages f ≡ f.blocks * g.block = ap (λ (h : Geometry). f.blocks * h.block) (sym geometry) in
-    page_length f (place (record { first = first * g.block; blocks = blocks; per_block = g.block; size = g.page }) n) reaches (omega (arith, small, all, split, pages_is)) ∙ ap (λ (h : Geometry). h.page) (sym geometry)
+sizes f g first blocks reaches geometry within some block = ring_lengths f g first blocks reaches (sym geometry) within some block
 
 -- a ring of which all rules hold, and what a check reads of it
 pub record SoundRing (Form : ℕ → List ℕ → Type 0) (order : KeyOrder) (page : ℕ → List ℕ) (r : Shape) (at_least : ℕ) (ring : model.Ring) : Type 0 where

@@ -1,15 +1,14 @@
 -- The configuration of a script is made by lines that are accepted.
-use Rattle.std.proofs.Common.{◌≡◌, ℕ, ◌+◌, Option, Some, None, Result, Ok, Err, List, [], ◌∷◌, ◌++◌, refl, sym, ◌∙◌, ap}
+use Rattle.std.proofs.Common.{◌≡◌, ℕ, ◌+◌, Option, Some, None, Result, Ok, Err, List, [], ◌∷◌, ◌++◌, refl, ◌∙◌, ap}
 use Rattle.std.specs.Option.{option_and_then}
 use Rattle.std.proofs.lemmas.Option.{same_Some}
-use Rattle.fl_base.specs.declared.types.Geometry.{Geometry}
-use Rattle.fl_config.specs.Whole.{Makes}
 use Rattle.fl_image.specs.Header.{unless_refused, after_command, after_lines, IsMade}
+use Rattle.fl_image.proofs.Made.{makes-of}
 use Rattle.fl_machine.specs.Script.{Ready, start_with, start_config, start_line, start_from, start_of, ended}
-use Rattle.fl_model.specs.Record.{Plan, Config}
+use Rattle.fl_model.specs.Record.{Config}
 use Rattle.fl_words.specs.Command as command
 use Rattle.fl_words.specs.Command.{Command}
-use Rattle.fl_words.specs.Config.{ConfigFault, Lines, configured, no_lines, whole, whole_of}
+use Rattle.fl_words.specs.Config.{ConfigFault, Lines, configured, no_lines, whole}
 use Rattle.fl_words.specs.Grammar.{LineFault, command_of}
 
 -- one line more
@@ -24,22 +23,11 @@ after-next text before now e (x ∷ texts) start h = by_first (after-next text b
     by_first rest None k = cc
     by_first rest (Some s) k = rest s k
 
-same-knots : (knots : ℕ) (lines : Lines) (config : Config) → whole knots lines ≡ Some config → Makes lines config
-same-knots knots lines config e = by_parts lines.device lines.plans e
-  where
-    by_parts : (device : Option Geometry) (plans : List Plan) → whole_of knots device plans ≡ Some config → whole_of config.knots device plans ≡ Some config
-    by_parts None l k = cc
-    by_parts (Some g) [] k = cc
-    by_parts (Some g) (plan ∷ l) k = ap (λ (n : ℕ). Some (record { geometry = g; plans = plan ∷ l; knots = n })) (sym (knots_are k)) ∙ k
-      where
-        knots_are : ◌≡◌ {A = Option Config} (Some (record { geometry = g; plans = plan ∷ l; knots = knots })) (Some config) → knots ≡ config.knots
-        knots_are q = let same : record { geometry = g; plans = plan ∷ l; knots = knots } ≡ config = cc in ap (λ (c : Config). c.knots) same
-
 module _ (knots : ℕ) (config : Config) (line : ℕ) (rest : List (List ℕ)) where
   -- the lines so far make the configuration
   made-with : (before : Lines) (texts : List (List ℕ)) → after_lines no_lines texts ≡ Some before → (n : ℕ) (others : List (List ℕ)) (o : Option Config) → whole knots before ≡ o → start_with o n others ≡ Ready config line rest → IsMade config
   made-with before texts h n others None k e = cc
-  made-with before texts h n others (Some c) k e = record { lines = before; accepted = (texts, h); makes = same-knots knots before config (k ∙ ap (λ (x : Config). Some x) (same e)) }
+  made-with before texts h n others (Some c) k e = record { lines = before; accepted = (texts, h); makes = makes-of knots before config (k ∙ ap (λ (x : Config). Some x) (same e)) }
     where
       same : Ready c n others ≡ Ready config line rest → c ≡ config
       same q = cc

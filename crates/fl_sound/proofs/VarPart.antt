@@ -1,5 +1,5 @@
 -- The rules of the ring of variable data hold where a flash stands for a table.
-use Rattle.std.proofs.Common.{◌≡◌, ◌⊎◌, inl, inr, ℕ, suc, ◌+◌, ◌-◌, ◌*◌, ◌^◌, ◌<◌, ◌≤◌, Bool, true, false, cond, ◌==◌, nat_lt, Option, Some, None, IfSome, is_some, option_map, List, [], ◌∷◌, ◌++◌, length, map, max, take, get_or, length-append, refl, sym, ◌∙◌, ap, subst, arith}
+use Rattle.std.proofs.Common.{◌≡◌, ◌⊎◌, inl, inr, ℕ, suc, ◌+◌, ◌-◌, ◌*◌, ◌^◌, ◌<◌, ◌≤◌, Bool, true, false, cond, ◌==◌, nat_lt, Option, Some, None, IfSome, is_some, option_map, List, [], ◌∷◌, length, map, max, take, refl, sym, ◌∙◌, ap, subst, arith}
 use Rattle.std.specs.List.{slice_get, list_any, AllByRecursion}
 use Rattle.std.proofs.lemmas.Bool.{cases_Bool, lt-ltb, false≢true}
 use Rattle.std.proofs.lemmas.List.{take_all}
@@ -10,7 +10,6 @@ use Rattle.fl_flash.specs.Flash.{FlashState, page_at}
 use Rattle.fl_model.specs.Facts.{IsContent, is_some_ring, counts_in}
 use Rattle.fl_model.specs.Agrees.{BlobsOf, reach_of}
 use Rattle.fl_model.specs.Image.{IsRingImage, HoldsContent}
-use Rattle.fl_model.specs.Layout.{content_body}
 use Rattle.fl_model.specs.Mount.{index_end}
 use Rattle.fl_model.specs.Record.{Plan}
 use Rattle.fl_model.specs.Ring as model
@@ -25,19 +24,19 @@ use Rattle.fl_plan.specs.Plan.{Label, blocks_in, plan_of_table}
 use Rattle.fl_plan.specs.declared.table_config.TableConfig.{TableConfig}
 use Rattle.fl_ring.specs.Head.{one}
 use Rattle.fl_ring.specs.Mounting.{IsGood}
-use Rattle.fl_ring.specs.Newest.{number_of}
 use Rattle.fl_ring.specs.Numbers.{renumbered}
 use Rattle.fl_ring.specs.Ring.{Shape, RingState, IsShape, count, oldest, place}
 use Rattle.fl_ring.proofs.Counts.{counts_length}
 use Rattle.fl_ring.proofs.GoodNumbers.{renumbered_some, renumbered_none}
 use Rattle.fl_ring.proofs.Images.{bytes_of}
-use Rattle.fl_schema.proofs.Numbers.{number_of-le}
-use Rattle.fl_schema.proofs.References.{field_4}
 use Rattle.fl_ring.proofs.Heads.{one-is}
 use Rattle.fl_parts.proofs.Plain.{least-below}
 use Rattle.fl_var.specs.Standing.{IsVarRing}
-use Rattle.fl_var.proofs.Bodies.{once, bodies-at}
-use Rattle.fl_var.proofs.States.{state_of, IsStateOf, state-is}
+use Rattle.fl_ring.proofs.Bodies.{bodies-numbered}
+use Rattle.fl_ring.proofs.HeldPages.{IsStateOf}
+use Rattle.fl_var.proofs.Bodies.{once, IsBody, some-once}
+use Rattle.fl_var.proofs.MountsInTable.{body-number}
+use Rattle.fl_var.proofs.States.{state_of, state-is}
 use Rattle.fl_rules.specs.Claims.{AllBelow}
 use Rattle.fl_rules.specs.References.{PageLeads}
 use Rattle.fl_rules.specs.RingRules.{NoRows, IsRingSound}
@@ -51,11 +50,6 @@ use Rattle.fl_sound.proofs.DataPart.{StandsOn, facts, idle, rows-of}
 use Rattle.fl_sound.proofs.ReferenceRule.{entry-of, HasBlobs, pages-lead}
 use Rattle.fl_sound.proofs.RingReads.{IsOf, any_at}
 use Rattle.fl_sound.proofs.RingSound.{SoundRing, AreFormed, sizes, counts-some, sound-ring}
-
--- the body of a page begins with its number
-body-number : (n : ℕ) (content : ContentPage) → n < 4294967296 → number_of (content_body n content) ≡ n
-body-number n content small =
-    field_4 (content_body n content) 0 0 0 4 refl refl (omega (arith, length-append (le 4 n ++ le 2 content.used ++ le 2 0) content.bytes)) ∙ number_of-le 4 n (omega (arith, small))
 
 -- blobs that all begin before a page end there
 ends-within : (so_far bound : ℕ) (rows : List Row) → so_far ≤ bound → ((i : ℕ) (row : Row) → slice_get rows i ≡ Some row → reference_end row.blob ≤ bound) → blobs_end so_far rows ≤ bound
@@ -133,7 +127,7 @@ module _ (label : Label) (config : TableConfig) (f : FlashState) (table : Table)
     abbrev s : RingState
     s = state_of ring table.var_pages
 
-    state : IsStateOf r plan (page_at f) size shape refl ring table.var_pages s
+    state : IsStateOf (IsBody plan) once r (page_at f) ring table.var_pages s
     state = state-is r plan (page_at f) size shape refl ring table.var_pages pages-are
 
     is-of : IsOf s ring
@@ -196,13 +190,7 @@ module _ (label : Label) (config : TableConfig) (f : FlashState) (table : Table)
     ]
 
     good : IsGood f r end s
-    good = record { told = is.told; on = state.on; numbered = λ i lt. by_page i lt (get_or s.kept i None) refl; fits = number-fits }
-      where
-        by_page : (i : ℕ) → i < count s → (x : Option (List ℕ)) → get_or s.kept i None ≡ x → IfSome x (λ body. number_of body ≡ oldest s + i)
-        by_page i lt None e = tt
-        by_page i lt (Some body) e =
-            let at = bodies-at plan (oldest s) s.kept table.var_pages i body state.bodies e in
-            ap number_of at.body_is ∙ body-number (oldest s + i) at.page (omega (arith, lt, state.on.ring.not_negative, pages-are.number))
+    good = record { told = is.told; on = state.on; numbered = bodies-numbered (IsBody plan) once (some-once plan) (body-number plan) s table.var_pages state.bodies state.on.ring.not_negative (let k = pages-are.number in omega (arith, k)); fits = number-fits }
 
     forms : AreFormed IsVarForm (page_at f) r ring
     forms i c e some = pages.good.content plan table ring i c (page_at f (place r (model.oldest ring + i))) (facts label config f table is) (pages-are.image.kept i c e some)

@@ -1,8 +1,8 @@
 -- All rules hold where a flash stands for a table, and so it is found sound.
-use Rattle.std.proofs.Common.{◌≡◌, ℕ, zero, suc, ◌+◌, ◌*◌, ◌≤◌, true, IsTrue, nat_lt, Option, Some, None, IfSome, List, [], ◌∷◌, length, map, take, refl, sym, ◌∙◌, ap, subst, arith}
+use Rattle.std.proofs.Common.{◌≡◌, ℕ, ◌+◌, ◌*◌, ◌≤◌, true, IsTrue, nat_lt, Option, Some, None, IfSome, List, length, map, take, refl, sym, ◌∙◌, ap, subst, arith}
 use Rattle.std.specs.List.{slice_get, sum, sum_by}
 use Rattle.std.specs.Option.{option_map}
-use Rattle.std.proofs.lemmas.Option.{slice_get-map, none-some, same_Some}
+use Rattle.std.proofs.lemmas.Option.{slice_get-map, same_Some}
 use Rattle.fl_base.specs.declared.types.Geometry.{Geometry}
 use Rattle.fl_base.specs.declared.types.RingPlace.{RingPlace}
 use Rattle.fl_flash.specs.Flash.{FlashState, page_at}
@@ -13,10 +13,11 @@ use Rattle.fl_machine.specs.Machine.{Machine}
 use Rattle.fl_machine.specs.Script.{StandsAfter}
 use Rattle.fl_model.specs.Bare.{bare, bare_table}
 use Rattle.fl_model.specs.Facts.{IsTable}
-use Rattle.fl_model.specs.Image.{IsTableImage, AreTableImages, IsRingImage, HoldsLogged, medium_len}
+use Rattle.fl_model.specs.Image.{IsTableImage, IsRingImage, HoldsLogged, medium_len}
 use Rattle.fl_model.specs.Mount as mount
 use Rattle.fl_model.specs.Record.{Plan, Config, has_var, blocks_of}
 use Rattle.fl_model.specs.Table.{Table, LogRing, shape_of, lose}
+use Rattle.fl_model.proofs.TableImages.{images-at}
 use Rattle.fl_plan.specs.Plan.{Label, label_of, plan_of_table, with_log}
 use Rattle.fl_plan.specs.declared.table_config.TableConfig.{TableConfig}
 use Rattle.fl_ring.specs.Ring.{Shape}
@@ -154,17 +155,6 @@ table-sound config log f plan table h =
           rests = record { settled = moved.settled; pages = moved.pages };
         }
 
--- the i-th table of an image
-table-image : (config : Config) (bytes : List ℕ) (start : ℕ) (plans : List Plan) (tables : List Table) (i : ℕ) (plan : Plan) (table : Table) → AreTableImages config bytes start plans tables
-    → slice_get plans i ≡ Some plan → slice_get tables i ≡ Some table → IsTableImage config bytes (start + i) plan table
-table-image config bytes start [] tables i plan table h e k = absurd (none-some plan e)
-table-image config bytes start (p ∷ plans) [] i plan table h e k = absurd h
-table-image config bytes start (p ∷ plans) (x ∷ tables) zero plan table h e k =
-    subst (λ (n : ℕ). IsTableImage config bytes n plan table) (let q : start ≡ start + 0 = omega arith in q)
-    (subst (λ (y : Table). IsTableImage config bytes start plan y) (same_Some x table k) (subst (λ (y : Plan). IsTableImage config bytes start y x) (same_Some p plan e) h.0))
-table-image config bytes start (p ∷ plans) (x ∷ tables) (suc i) plan table h e k =
-    subst (λ (n : ℕ). IsTableImage config bytes n plan table) (let q : start + 1 + i ≡ start + suc i = omega arith in q) (table-image config bytes (start + 1) plans tables i plan table h.1 e k)
-
 -- the flash ends where the image does
 image-reaches : (config : Config) (bytes : List ℕ) (i : ℕ) (plan : Plan) (c : TableConfig) (log : Option RingPlace) (f : FlashState) → length bytes ≡ medium_len config → LiesIn config bytes i plan c log f → f.start + extent f.geometry f.blocks ≤ length f.media.content
 image-reaches config bytes i plan c log f len h =
@@ -174,7 +164,7 @@ image-reaches config bytes i plan c log f len h =
 pub image-sound : (config : Config) (bytes : List ℕ) (tables : List Table) (i : ℕ) (plan : Plan) (table : Table) (c : TableConfig) (log : Option RingPlace) (f : FlashState) → IsImage config bytes tables → slice_get tables i ≡ Some table
     → LiesIn config bytes i plan c log f → FindsAlone c log f (sound_table table)
 image-sound config bytes tables i plan table c log f image table_is h =
-    let one = table-image config bytes 0 config.plans tables i plan table image.tables_are h.plan_is table_is in
+    let one = images-at config bytes 0 config.plans tables image.tables_are i plan table h.plan_is table_is in
     let here : IsTableImage config f.media.content i plan table =
     subst (λ (n : ℕ). IsTableImage config f.media.content n plan table) (let q : 0 + i ≡ i = omega arith in q) (subst (λ (l : List ℕ). IsTableImage config l (0 + i) plan table) (sym h.content) one) in
     let rests = image-rests config i plan table f h.start h.geometry here in

@@ -1,20 +1,16 @@
 -- The newest knots of a list, and the scan's knots against the definition.
 use Rattle.std.proofs.Common.{ℕ, ◌≡◌, ◌<◌, ◌≤◌, ◌+◌, ◌-◌, List, [], ◌∷◌, ◌++◌, length, take, drop, refl, ap, ◌∙◌, sym, arith, Some, ⊎_elim, length-append, length-drop, length-take, get_or}
-use Rattle.std.specs.Prelude.{slice_get}
 use Rattle.std.proofs.lemmas.Bool.{cases_lt}
 use Rattle.std.proofs.lemmas.List.{drop-drop, drop-append-le, get_or-take, get_or-drop}
 use Rattle.std.proofs.lemmas.List.Quantifiers.{all_pairs_push}
 use Rattle.std.proofs.lemmas.Option.{slice_get-get_or}
 use Rattle.std.proofs.Math.Seq.{take-append_seam}
-use Rattle.std.proofs.lemmas.Grind.{common_steps}
+use Rattle.fl_model.proofs.Lists.{drop_none, slice_get-last}
 use Rattle.fl_spline.specs.Points.{IsPast, IsFurther, Rises, newest, last_of}
 use Rattle.fl_spline.specs.Scan.{end_or}
 
-pub drop-none : (xs : List (ℕ × ℕ)) → drop 0 xs ≡ xs
-drop-none xs = grind (arith, common_steps)
-
 pub newest-short : (n : ℕ) (xs : List (ℕ × ℕ)) → length xs ≤ n → newest n xs ≡ xs
-newest-short n xs h = let e : length xs - n ≡ 0 = omega arith in rw e (drop-none xs)
+newest-short n xs h = let e : length xs - n ≡ 0 = omega arith in rw e (drop_none xs)
 
 -- the newest of a list that ends in p
 pub newest-end : (n : ℕ) (xs : List (ℕ × ℕ)) (p : ℕ × ℕ) → 0 < n → newest n (xs ++ p ∷ []) ≡ drop (length xs + 1 - n) xs ++ p ∷ []
@@ -40,14 +36,10 @@ newest-replace n xs z p positive =
     let len : length (front ++ z ∷ []) - 1 ≡ length front = omega (arith, length-append front (z ∷ [])) in
     rw (newest-end n xs z positive, len, take-append_seam front (z ∷ [])) (sym (newest-end n xs p positive))
 
-get_at_end : (xs : List (ℕ × ℕ)) (p : ℕ × ℕ) → slice_get (xs ++ p ∷ []) (length xs) ≡ Some p
-get_at_end [] p = refl
-get_at_end (x ∷ xs) p = get_at_end xs p
-
 pub last_of-push : (xs : List (ℕ × ℕ)) (p : ℕ × ℕ) → last_of (xs ++ p ∷ []) ≡ Some p
 last_of-push xs p =
     let at : length (xs ++ p ∷ []) - 1 ≡ length xs = omega (arith, length-append xs (p ∷ [])) in
-    rw at (get_at_end xs p)
+    rw at (slice_get-last xs p)
 
 pub last_of-newest : (n : ℕ) (xs : List (ℕ × ℕ)) (p : ℕ × ℕ) → 0 < n → last_of (newest n (xs ++ p ∷ [])) ≡ Some p
 last_of-newest n xs p positive = rw (newest-end n xs p positive) (last_of-push (drop (length xs + 1 - n) xs) p)

@@ -19,10 +19,6 @@ knots_from most error a ps = a ∷ knots_after error most a ps
 abbrev IsRun : ℕ → ℕ × ℕ → List (ℕ × ℕ) → Type 0
 IsRun error a run = (qs : List (ℕ × ℕ)) → reach error a [] (run ++ qs) ≡ length run + reach error a run qs
 
-append-none : (xs : List (ℕ × ℕ)) → xs ++ [] ≡ xs
-append-none [] = refl
-append-none (x ∷ xs) = ap (λ ys. x ∷ ys) (append-none xs)
-
 -- the end of a run that is followed by other points
 run-end : (d r : ℕ × ℕ) (rs qs : List (ℕ × ℕ)) → unwrap_or (slice_get ((r ∷ rs) ++ qs) (length rs)) d ≡ end_or r rs
 run-end d r [] qs = refl

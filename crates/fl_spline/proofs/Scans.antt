@@ -1,5 +1,6 @@
 -- One more point, in the scan and in what the code keeps.
 use Rattle.std.proofs.Common.{ℕ, ◌≡◌, ◌<◌, ◌≤◌, ◌+◌, ◌-◌, List, [], ◌∷◌, ◌++◌, true, false, length, take, refl, ap, ◌∙◌, sym, arith, Option, Some, None, append_assoc, length-append}
+use Rattle.fl_model.proofs.Lists.{push_not_nil}
 use Rattle.fl_spline.specs.declared.corridor.Corridor.{Corridor}
 use Rattle.fl_spline.specs.Points.{newest, last_of}
 use Rattle.fl_spline.specs.Corridor.{Covers, passes}
@@ -50,10 +51,6 @@ scan-break n error (Some s) ks ks' c c' p end positive last h far new base cover
       corridor = record { base = base ∙ same; covers = covers; first = λ e. absurd (cc e) };
     }
 
-not-nil : (xs : List (ℕ × ℕ)) (p : ℕ × ℕ) → xs ++ p ∷ [] ≡ [] → ⊥
-not-nil [] p e = cc e
-not-nil (x ∷ xs) p e = cc e
-
 one-knots : (n : ℕ) (fixed : List (ℕ × ℕ)) (base : ℕ × ℕ) (run : List (ℕ × ℕ)) (p : ℕ × ℕ) → 2 ≤ n → length (newest n (fixed ++ base ∷ end_of run)) ≤ 1
     → newest n (newest n (fixed ++ base ∷ end_of run) ++ p ∷ []) ≡ newest n (fixed ++ base ∷ end_of (run ++ p ∷ []))
 one-knots n fixed base [] p two one =
@@ -77,7 +74,7 @@ scan-second n error (Some s) ks ks' c c' p end two last one h near new base cove
     let few : length (newest n (s.fixed ++ s.base ∷ end_of s.run)) ≤ 1 = omega (arith, ap length h.knots) in
     rw here record {
       knots = new ∙ ap (λ xs. newest n (xs ++ p ∷ [])) h.knots ∙ one-knots n s.fixed s.base s.run p two few;
-      corridor = record { base = base ∙ h.corridor.base; covers = covers s.run h.corridor.covers; first = λ e. absurd (not-nil s.run p e) };
+      corridor = record { base = base ∙ h.corridor.base; covers = covers s.run h.corridor.covers; first = λ e. absurd (push_not_nil s.run p e) };
     }
 
 more-knots : (n : ℕ) (fixed : List (ℕ × ℕ)) (base : ℕ × ℕ) (run : List (ℕ × ℕ)) (p : ℕ × ℕ) → 2 ≤ n → (run ≡ [] → fixed ≡ [])
@@ -106,5 +103,5 @@ scan-more n error (Some s) ks ks' c c' p end two last more h near new base cover
     let many : 1 < length (newest n (s.fixed ++ s.base ∷ end_of s.run)) = omega (arith, ap length h.knots) in
     rw here record {
       knots = new ∙ ap (λ xs. take (length xs - 1) xs ++ p ∷ []) h.knots ∙ more-knots n s.fixed s.base s.run p two h.corridor.first many;
-      corridor = record { base = base ∙ h.corridor.base; covers = covers s.run h.corridor.covers; first = λ e. absurd (not-nil s.run p e) };
+      corridor = record { base = base ∙ h.corridor.base; covers = covers s.run h.corridor.covers; first = λ e. absurd (push_not_nil s.run p e) };
     }

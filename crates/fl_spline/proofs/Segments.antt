@@ -5,6 +5,7 @@ use Rattle.std.specs.List.Sorted.{IsPartitionPoint, IsNonDecreasingBy}
 use Rattle.std.proofs.lemmas.Bool.{cases_lt, leb-true, leb-false, le-leb, lt-ltb, le-ltb}
 use Rattle.std.proofs.Math.Seq.{drop-cons}
 use Rattle.std.proofs.Math.Numerals.{add-one}
+use Rattle.std.proofs.lemmas.List.{drop_all}
 use Rattle.fl_model.specs.Spline.{is_covered, estimate}
 use Rattle.fl_spline.specs.Points.{Rises}
 use Rattle.fl_spline.specs.Segment.{IsSegment, point_at}
@@ -46,15 +47,9 @@ estimate-drop (a ∷ b ∷ ks) key (suc i) up within le =
     let rising = keys-rise (b ∷ ks) (rises-tail a (b ∷ ks) up) 0 i (0, 0) (omega arith) (omega arith) in
     estimate-after a b ks key (omega (arith, rising, le)) ∙ estimate-drop (b ∷ ks) key i (rises-tail a (b ∷ ks) up) (omega arith) le
 
-drop-past : (n : ℕ) (ks : List (ℕ × ℕ)) → length ks ≤ n → drop n ks ≡ []
-drop-past zero [] le = refl
-drop-past zero (k ∷ ks) le = absurd (omega (arith, le))
-drop-past (suc n) [] le = refl
-drop-past (suc n) (k ∷ ks) le = drop-past n ks (omega (arith, le))
-
 pub estimate-last : (ks : List (ℕ × ℕ)) (key i : ℕ) → Rises ks → IsSegment ks key i → i + 1 ≡ length ks → estimate ks key ≡ (point_at ks i).1
 estimate-last ks key i up s e =
-    let none : drop (suc i) ks ≡ [] = drop-past (suc i) ks (omega arith) in
+    let none : drop (suc i) ks ≡ [] = drop_all (suc i) ks (omega arith) in
     let here : drop i ks ≡ point_at ks i ∷ [] = drop-cons ks i (0, 0) s.within ∙ ap (λ xs. point_at ks i ∷ xs) none in
     estimate-drop ks key i up s.within s.at_most ∙ ap (λ xs. estimate xs key) here
 

@@ -1,11 +1,11 @@
 -- How near the estimate of a covered key is to the pages of the two points round it.
 use Rattle.std.proofs.Common.{ℕ, zero, suc, ◌≡◌, ◌<◌, ◌≤◌, ◌+◌, ◌-◌, ◌*◌, ◌/◌, ◌%◌, List, [], ◌∷◌, ◌++◌, Bool, true, false, ltb, length, drop, refl, ap, ◌∙◌, sym, subst, arith, get_or, ⊎_elim, append_assoc, length-drop}
-use Rattle.std.specs.Prelude.{slice_get, unwrap_or, IfSome, ◌&&◌}
+use Rattle.std.specs.Prelude.{slice_get, unwrap_or, IfSome}
 use Rattle.std.specs.List.{list_all, AllByRecursion}
 use Rattle.std.specs.Int.{abs_diff}
 use Rattle.std.proofs.Math.Nat.{mul-le-mul_left, mul_comm}
-use Rattle.std.proofs.lemmas.Bool.{cases_lt, leb-true, le-leb, lt-ltb, le-ltb}
-use Rattle.fl_model.proofs.Lists.{and_right}
+use Rattle.std.proofs.lemmas.Bool.{cases_lt, leb-true, le-leb, lt-ltb, le-ltb, and_parts}
+use Rattle.fl_model.proofs.Lists.{each-weaker, each-front, each-drop, and_right}
 use Rattle.fl_model.specs.Spline.{is_near, reach, knots_after, knots_of, retained, is_covered, estimate}
 use Rattle.fl_spline.specs.Points.{IsPast, Rises, last_of}
 use Rattle.fl_spline.specs.declared.spline.Spline.{Spline}
@@ -42,19 +42,6 @@ climbs (p ∷ ps) up = (
 all-mid : (P : ℕ × ℕ → Type 0) (xs : List (ℕ × ℕ)) (b : ℕ × ℕ) (rest : List (ℕ × ℕ)) → AllByRecursion P (xs ++ b ∷ rest) → P b
 all-mid P [] b rest h = h.0
 all-mid P (x ∷ xs) b rest h = all-mid P xs b rest h.1
-
-all-front : (P : ℕ × ℕ → Type 0) (xs ys : List (ℕ × ℕ)) → AllByRecursion P (xs ++ ys) → AllByRecursion P xs
-all-front P [] ys h = tt
-all-front P (x ∷ xs) ys h = (h.0, all-front P xs ys h.1)
-
-all-map : (P Q : ℕ × ℕ → Type 0) (xs : List (ℕ × ℕ)) → ((x : ℕ × ℕ) → P x → Q x) → AllByRecursion P xs → AllByRecursion Q xs
-all-map P Q [] f h = tt
-all-map P Q (x ∷ xs) f h = (f x h.0, all-map P Q xs f h.1)
-
-all-drop : (P : ℕ × ℕ → Type 0) (n : ℕ) (xs : List (ℕ × ℕ)) → AllByRecursion P xs → AllByRecursion P (drop n xs)
-all-drop P zero xs h = h
-all-drop P (suc n) [] h = tt
-all-drop P (suc n) (x ∷ xs) h = all-drop P n xs h.1
 
 climbs-back : (xs ys : List (ℕ × ℕ)) → Climbs (xs ++ ys) → Climbs ys
 climbs-back [] ys up = up
@@ -119,10 +106,6 @@ beyond : (error key page : ℕ) (b : ℕ × ℕ) (rest : List (ℕ × ℕ)) → 
 beyond error key page b [] up lt = λ le. absurd (omega arith)
 beyond error key page b (q ∷ rest) up lt = (λ le _. absurd (omega arith), beyond error key page q rest up.1 (omega (arith, up.0.0.0)))
 
-and-left : (p q : Bool) → (p && q) ≡ true → p ≡ true
-and-left true q h = refl
-and-left false q h = h
-
 -- a key before the end of the segment
 within : (error key : ℕ) (a b p : ℕ × ℕ) (xs rest : List (ℕ × ℕ)) → IsPast a b → key < b.0 → AllByRecursion (IsPast a) xs
     → list_all (is_near error a b) xs ≡ true → (p.0 ≤ key → p.1 ≤ line a b key + error) → Climbs (b ∷ rest)
@@ -130,7 +113,7 @@ within : (error key : ℕ) (a b p : ℕ × ℕ) (xs rest : List (ℕ × ℕ)) �
 within error key a b p [] rest past lt all near low up =
     (λ le _. (low le, omega (arith, line-end key a b past lt)), beyond error key (line a b key) b rest up lt)
 within error key a b p (x ∷ xs) rest past lt all near low up =
-    let here : is_near error a b x ≡ true = and-left (is_near error a b x) (list_all (is_near error a b) xs) near in (
+    let here : is_near error a b x ≡ true = (and_parts (is_near error a b x) (list_all (is_near error a b) xs) near).0 in (
       λ le before. (low le, line-high error key a b x past.0 all.0 here before),
       within error key a b x xs rest past lt all.1 (and_right (is_near error a b x) (list_all (is_near error a b) xs) near)
           (line-low error key a b x past.0 all.0 here) up,
@@ -197,7 +180,7 @@ knots-past (suc turns) error a (p ∷ os) up =
     let past : IsPast a b = all-mid (IsPast a) cut.xs b (drop m os) whole.0 in
     subst (AllByRecursion (IsPast a)) (sym (knots-next turns error a p os m refl)) (
       past,
-      all-map (IsPast b) (IsPast a) (knots_after error turns b (drop m os)) (λ x h. past-trans a b x past h)
+      each-weaker (IsPast b) (IsPast a) (λ x h. past-trans a b x past h) (knots_after error turns b (drop m os))
           (knots-past turns error b (drop m os) (climbs-back cut.xs (b ∷ drop m os) whole.1)),
     )
 
@@ -207,7 +190,7 @@ covered-first key b (k ∷ ks) all covered = omega (arith, all.0.0, leb-true k.0
 
 covered-from : (key d : ℕ) (b : ℕ × ℕ) (ks : List (ℕ × ℕ)) → AllByRecursion (IsPast b) ks → is_covered (drop d (b ∷ ks)) key ≡ true → b.0 ≤ key
 covered-from key zero b ks all covered = leb-true b.0 key covered
-covered-from key (suc d) b ks all covered = covered-first key b (drop d ks) (all-drop (IsPast b) d ks all) covered
+covered-from key (suc d) b ks all covered = covered-first key b (drop d ks) (each-drop (IsPast b) d ks all) covered
 
 uncovered-nil : (d key : ℕ) → is_covered (drop d []) key ≡ true → ⊥
 uncovered-nil zero key h = cc h
@@ -234,7 +217,7 @@ windows-next turns error key a b xs rest up near later (suc d) covered =
 windows-next turns error key a b xs rest up near later zero covered = ⊎_elim
     (λ lt.
     let first : ltb key b.0 ≡ true = lt-ltb _ _ lt in
-    rw first (within error key a b a xs rest (all-mid (IsPast a) xs b rest up.0) lt (all-front (IsPast a) xs (b ∷ rest) up.0) near
+    rw first (within error key a b a xs rest (all-mid (IsPast a) xs b rest up.0) lt (each-front (IsPast a) xs (b ∷ rest) up.0) near
     (λ le. omega arith) (climbs-back xs (b ∷ rest) up.1)))
     (λ le.
     let other : ltb key b.0 ≡ false = le-ltb _ _ le in

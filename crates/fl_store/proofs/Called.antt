@@ -1,7 +1,8 @@
 -- A store after a call of one of its tables, which leaves the pages of the others.
 use Rattle.std.proofs.Common.{◌≡◌, ℕ, ◌<◌, Bool, true, false, IsTrue, IfErr, IsErrAnd, Some, Result, Ok, Err, List, length, map, get_or, refl, sym, ◌∙◌, ap, subst, MatchBool, OnOk, option_map, slice_get}
 use Rattle.std.proofs.lemmas.List.{length-map}
-use Rattle.std.proofs.lemmas.Option.{slice_get-map}
+use Rattle.std.proofs.lemmas.Option.{slice_get-map, slice_get_read}
+use Rattle.std.proofs.lemmas.Iterator.Adapters.{option_map_id}
 use Rattle.fl_flash.specs.Flash.{FlashState, Goes, page_at}
 use Rattle.fl_model.specs.Record.{Config, Plan, Record}
 use Rattle.fl_model.specs.Row.{Row}
@@ -26,7 +27,7 @@ use Rattle.fl_store.specs.Store.{Holds}
 use Rattle.fl_store.specs.Tables.{first_of, entries_with, EntryStands, TablesStand}
 use Rattle.fl_store.specs.declared.tables.Entry.{Entry}
 use Rattle.fl_store.proofs.CallsInTurn.{planned-same}
-use Rattle.fl_store.proofs.TablesChanged.{entry-off, item-there, length-changed, option_map-same, set-same, some-is, tables-changed}
+use Rattle.fl_store.proofs.TablesChanged.{entry-off, length-changed, set-same, some-is, tables-changed}
 use Rattle.fl_store.proofs.Worked.{medium-goes}
 
 -- The tables, over two flashes.
@@ -48,7 +49,7 @@ module _ (plans : List Plan) (tables : List model.Table) (entries : List Entry) 
   tables-done after stands =
       tables-changed f g (λ i. true) (λ i. true) plans entries tables (with_table at tables after) at entry now_there (λ x. x) after
       h here outside goes.geometry (length-changed at after tables) (changed-there at table after tables table_is)
-      (λ i other. changed-elsewhere at i after tables other ∙ sym (option_map-same (slice_get tables i)))
+      (λ i other. changed-elsewhere at i after tables other ∙ sym (option_map_id (slice_get tables i)))
       (entry-now true after stands) (λ i p e x other k. k)
 
   -- .. or one failed, and what was in memory is lost
@@ -104,7 +105,7 @@ module _ (config : Config) (tables : List model.Table) (entries : List Entry) (a
 
 -- the table at a place
 pub entry-at : (entries : List Entry) (at : ℕ) (entry : Entry) → at < length entries → entry ≡ get_or entries at entry → slice_get entries at ≡ Some entry
-entry-at entries at entry within is = item-there entries (length entries) at entry refl within is
+entry-at entries at entry within is = slice_get_read entries (length entries) at entry refl within is
 
 pub own-entry : (entries : List Entry) (at : ℕ) (entry other : Entry) → at < length entries → entry ≡ get_or entries at entry → slice_get entries at ≡ Some other → other ≡ entry
 own-entry entries at entry other within is there = some-is (slice_get entries at) other entry there (entry-at entries at entry within is)

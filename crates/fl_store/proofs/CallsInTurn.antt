@@ -1,6 +1,5 @@
 -- A flash and a table over several calls.
-use Rattle.std.proofs.Common.{ℕ, ◌+◌, ◌≤◌, Option, None, Some, sym, ◌∙◌, ap, arith, le_trans}
-use Rattle.fl_base.specs.Causes.{Rose}
+use Rattle.std.proofs.Common.{ℕ, ◌+◌, Option, None, Some, sym, ◌∙◌, ap}
 use Rattle.fl_base.specs.declared.types.RingPlace.{RingPlace}
 use Rattle.fl_model.specs.Bare.{bare}
 use Rattle.fl_model.specs.Record.{Plan, blocks_of}
@@ -10,13 +9,6 @@ use Rattle.fl_rlc.specs.Table.{AreSameLog, IsLogPlanned, IsPlanned, IsSamePlan}
 use Rattle.fl_rlc.specs.declared.log.RecordLog.{RecordLog}
 use Rattle.fl_rlc.specs.declared.table.LoggedTable.{LoggedTable}
 use Rattle.fl_rlc.proofs.PutFrames.{log-self}
-
--- faults that rose in a part of the calls rose in the whole
-pub rose-front : (before mid now : ℕ) → mid ≤ now → Rose before mid → Rose before now
-rose-front before mid now later r = le_trans r later
-
-pub rose-back : (before mid now : ℕ) → before ≤ mid → Rose mid now → Rose before now
-rose-back before mid now earlier r = omega arith
 
 -- the plan of a table
 log-on : (old mid new : Option RecordLog) → AreSameLog old mid → AreSameLog mid new → AreSameLog old new

@@ -12,8 +12,6 @@ use Rattle.fl_config.proofs.Texts.{column_name-is, name_of-short}
 use Rattle.fl_image.specs.Header.{IsAccepted}
 use Rattle.fl_image.proofs.AcceptedLines.{IsTaken, AreTaken, Stands, accepted-stands}
 use Rattle.fl_image.proofs.ColumnWords.{named-are_typed}
-use Rattle.fl_image.proofs.Numbers.{IsSigned}
-use Rattle.fl_image.proofs.ReadBack.{test-passes}
 use Rattle.fl_image.proofs.ReadWords.{IsTableRead}
 use Rattle.fl_model.specs.Record.{Column, Plan, Config}
 use Rattle.fl_schema.specs.Types.{column_of}
@@ -23,6 +21,8 @@ use Rattle.fl_words.specs.Config as words
 use Rattle.fl_words.specs.Config.{Lines, plan_of, columns_in, bad_log, first_fault, table_faults}
 use Rattle.fl_words.specs.Grammar.{greatest_number, is_name, is_letter, is_digit}
 use Rattle.fl_words.specs.Medium.{column_name, line_text, device_text, table_text, header}
+use Rattle.fl_words.proofs.Tests.{test-passes}
+use Rattle.fl_script.proofs.Numbers.{IsSigned}
 use Rattle.fl_image.proofs.Made.{made-by}
 
 -- the bytes of words with one more for each

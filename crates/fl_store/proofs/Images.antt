@@ -1,7 +1,8 @@
 -- The tables of an image, over a flash on its medium.
-use Rattle.std.proofs.Common.{◌≡◌, ℕ, zero, suc, ◌+◌, ◌*◌, ◌^◌, ◌<◌, ◌≤◌, Bool, true, false, ◌||◌, nat_lt, Some, None, IfSome, List, [], ◌∷◌, length, take, refl, sym, ◌∙◌, ap, subst, le_trans, arith, sum_by, slice_get, ltb-false}
+use Rattle.std.proofs.Common.{◌≡◌, ℕ, suc, ◌+◌, ◌*◌, ◌^◌, ◌<◌, ◌≤◌, true, false, nat_lt, Some, None, IfSome, List, [], ◌∷◌, length, take, refl, sym, ◌∙◌, ap, subst, le_trans, arith, sum_by, slice_get, ltb-false}
 use Rattle.std.proofs.lemmas.List.Sums.{sum_by-take-le}
-use Rattle.std.proofs.lemmas.Option.{slice_get_within, none-some}
+use Rattle.std.proofs.lemmas.Option.{slice_get_within}
+use Rattle.std.proofs.lemmas.Bool.{or_parts}
 use Rattle.fl_base.specs.declared.types.Geometry.{Geometry}
 use Rattle.fl_config.specs.Whole.{Makes}
 use base.Fml.{GName}
@@ -14,6 +15,7 @@ use Rattle.fl_model.specs.Image.{medium_len, IsTableImage, AreTableImages}
 use Rattle.fl_model.specs.Record.{Plan, Config, blocks_of}
 use Rattle.fl_model.specs.Table.{Table}
 use Rattle.fl_model.proofs.Lists.{slice_get-some}
+use Rattle.fl_model.proofs.TableImages.{images-at, images-many}
 use Rattle.fl_rlc.specs.Table.{IsPlanned}
 use Rattle.fl_rlc.proofs.Images.{image-rests, rests-image}
 use Rattle.fl_store.specs.Tables.{first_of, AreNewTables, EntryStands, TablesStand, LieOn}
@@ -35,24 +37,6 @@ images-of config content place (plan ∷ plans) (table ∷ tables) n each = (
   images-of config content (place + 1) plans tables (omega (arith, n)) (λ i p t e k.
       subst (λ q. IsTableImage config content q p t) (let m : place + suc i ≡ place + 1 + i = omega arith in m) (each (suc i) p t e k)),
 )
-
-pub images-many : (config : Config) (content : List ℕ) (place : ℕ) (plans : List Plan) (tables : List Table) → AreTableImages config content place plans tables → length tables ≡ length plans
-images-many config content place [] [] h = refl
-images-many config content place [] (table ∷ tables) h = absurd h
-images-many config content place (plan ∷ plans) [] h = absurd h
-images-many config content place (plan ∷ plans) (table ∷ tables) h = ap suc (images-many config content (place + 1) plans tables h.1)
-
-pub images-at : (config : Config) (content : List ℕ) (place : ℕ) (plans : List Plan) (tables : List Table) → AreTableImages config content place plans tables → (i : ℕ) (plan : Plan) (table : Table) → slice_get plans i ≡ Some plan → slice_get tables i ≡ Some table →
-    IsTableImage config content (place + i) plan table
-images-at config content place [] tables h i plan table e k = absurd (none-some plan e)
-images-at config content place (p ∷ plans) [] h i plan table e k = absurd h
-images-at config content place (p ∷ plans) (t ∷ tables) h zero plan table e k =
-    let plan_is : p ≡ plan = cc in
-    let table_is : t ≡ table = cc in
-    subst (λ q. IsTableImage config content q plan table) (let m : place ≡ place + 0 = omega arith in m)
-    (subst (λ x. IsTableImage config content place x table) plan_is (subst (λ x. IsTableImage config content place p x) table_is h.0))
-images-at config content place (p ∷ plans) (t ∷ tables) h (suc i) plan table e k =
-    subst (λ q. IsTableImage config content q plan table) (let m : place + 1 + i ≡ place + suc i = omega arith in m) (images-at config content (place + 1) plans tables h.1 i plan table e k)
 
 -- ---- tables that were planned for the lines of an image, over a flash on its medium
 
@@ -89,17 +73,13 @@ tables-image config entries f tables len head start geometry h = record {
 
 -- ---- new tables lie on a flash of their configuration
 
-or-left : (a b : Bool) → (a || b) ≡ false → a ≡ false
-or-left true b e = e
-or-left false b e = refl
-
 blocks-within : (plans : List Plan) (i : ℕ) (plan : Plan) → slice_get plans i ≡ Some plan → first_of plans i + blocks_of plan ≤ sum_by blocks_of plans
 blocks-within plans i plan e =
     le_trans (blocks-apart plans i (length plans) plan e (slice_get_within plans i plan e)) (sum_by-take-le blocks_of plans (length plans))
 
 few-pages : (f : FlashState) (plans : List Plan) → f.blocks ≡ sum_by blocks_of plans → too_large f.geometry plans ≡ false → pages f < 2 ^ 32
 few-pages f plans e fits =
-    let few = ltb-false 65536 (sum_by blocks_of plans * f.geometry.block) (or-left (nat_lt 65536 (sum_by blocks_of plans * f.geometry.block)) (nat_lt 67108864 (sum_by blocks_of plans * f.geometry.block * f.geometry.page)) fits) in
+    let few = ltb-false 65536 (sum_by blocks_of plans * f.geometry.block) (or_parts (nat_lt 65536 (sum_by blocks_of plans * f.geometry.block)) (nat_lt 67108864 (sum_by blocks_of plans * f.geometry.block * f.geometry.page)) fits).0 in
     subst (λ blocks. blocks * f.geometry.block < 2 ^ 32) (sym e) (omega (arith, few))
 
 new-lie : (entries : List Entry) (lines : Lines) (f : FlashState) → AreNewTables entries lines → lines.device ≡ Some f.geometry → f.blocks ≡ sum_by blocks_of lines.plans →

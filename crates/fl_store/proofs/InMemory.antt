@@ -1,18 +1,17 @@
 -- What a call of one table leaves of all tables in memory.
-use Rattle.std.proofs.Common.{◌≡◌, ℕ, zero, suc, ◌≤◌, Bool, true, false, not, ◌&&◌, ◌||◌, is_some, Option, None, Some, Result, Ok, Err, List, [], ◌∷◌, length, refl, sym, ◌∙◌, ap, subst, arith, OnOk, option_map, unwrap_or, slice_get, length-set}
+use Rattle.std.proofs.Common.{◌≡◌, ℕ, zero, suc, ◌≤◌, Bool, true, false, not, ◌&&◌, ◌||◌, None, Some, Result, Ok, Err, List, [], ◌∷◌, length, refl, sym, ◌∙◌, ap, subst, arith, OnOk, option_map, unwrap_or, slice_get, length-set}
 use Rattle.fl_model.specs.Record.{Record, RowLayout}
 use Rattle.fl_rlc.specs.Rows.{AreBegun, HaveLogged}
 use Rattle.fl_rlc.specs.Table.{IsSamePlan, is_running, is_stopped, log_in, table_in}
 use Rattle.fl_rlc.specs.declared.table.LoggedTable.{LoggedTable}
 use Rattle.fl_table.specs.BlobAt.{has_blobs}
-use Rattle.fl_parts.specs.Blobs as variable
+use Rattle.fl_parts.proofs.BlobsOfTable.{same-some}
 use Rattle.fl_table.specs.Causes.{flush_breaks, put_breaks}
 use Rattle.fl_table.specs.Look.{last_key_in, layout_in}
 use Rattle.fl_table.specs.Memory.{pending_in}
 use Rattle.fl_table.specs.Stored.{IsEmptied, Stores}
 use Rattle.fl_table.specs.declared.faults.FlushFault.{FlushFault}
 use Rattle.fl_table.specs.declared.faults.PutRefusal.{PutRefusal}
-use Rattle.fl_var.specs.declared.var_data.VarData.{VarData}
 use Rattle.fl_store.specs.Calls.{RunsAt}
 use Rattle.fl_store.specs.InMemory.{AreSameTables, Becomes, Flushes, GoesOn, LeavesOthers, Takes}
 use Rattle.fl_store.specs.Mounting.{AreSameNames, AreSamePlans}
@@ -33,18 +32,12 @@ asked-same ask none (was ∷ old) [] many each at = absurd (omega (arith, many))
 asked-same ask none (was ∷ old) (now ∷ new) many each zero = each 0 was now refl refl
 asked-same ask none (was ∷ old) (now ∷ new) many each (suc at) = asked-same ask none old new (omega (arith, many)) (λ i. each (suc i)) at
 
-pub data-same : (old new : Option VarData) → variable.AreSamePlan old new → is_some new ≡ is_some old
-data-same None None same = refl
-data-same None (Some new) same = absurd same
-data-same (Some old) None same = absurd same
-data-same (Some old) (Some new) same = refl
-
 pub tables-same : (old new : List Entry) → length new ≡ length old → AreSameNames old new → AreSamePlans old new → AreSameTables old new
 tables-same old new many names plans = record {
   names = names;
   plans = plans;
   columns = asked-same (λ (e : Entry). length (layout_in (table_in e.table)).columns) 0 old new many (λ i was now p q. ap (λ (l : RowLayout). length l.columns) (plans i was now p q).table.layout);
-  blobs = asked-same (λ (e : Entry). has_blobs (table_in e.table)) false old new many (λ i was now p q. data-same (table_in was.table).blobs (table_in now.table).blobs (plans i was now p q).table.blobs);
+  blobs = asked-same (λ (e : Entry). has_blobs (table_in e.table)) false old new many (λ i was now p q. same-some (table_in was.table).blobs (table_in now.table).blobs (plans i was now p q).table.blobs);
 }
 
 -- ---- a call of the table at a place

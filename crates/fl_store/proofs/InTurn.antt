@@ -2,7 +2,7 @@
 use Rattle.std.proofs.Common.{◌≡◌, ℕ, zero, suc, ◌+◌, ◌<◌, ◌≤◌, Some, List, take, refl, ◌∙◌, ap, subst, arith, slice_get, length-take}
 use Rattle.std.proofs.lemmas.Option.{slice_get_within}
 use Rattle.fl_flash.specs.Flash.{FlashState}
-use Rattle.fl_model.proofs.Lists.{slice_get-take, slice_get-front}
+use Rattle.fl_model.proofs.Lists.{slice_get-take, slice_get-front, sum_by-next}
 use Rattle.fl_rlc.specs.Mounting.{FindsPages}
 use Rattle.fl_rlc.specs.Table as table
 use Rattle.fl_rlc.specs.Table.{IsSamePlan, repairs_in}
@@ -13,7 +13,6 @@ use Rattle.fl_store.specs.Mounting.{MountsInTurn, OutsideStands, repairs_of}
 use Rattle.fl_store.specs.Tables.{entries_with}
 use Rattle.fl_store.specs.declared.tables.Entry.{Entry}
 use Rattle.fl_store.proofs.TablesChanged.{set-there, set-elsewhere}
-use Rattle.fl_store.proofs.TablesReads.{sum-more}
 
 -- ---- in turn
 
@@ -61,7 +60,7 @@ repairs-more entries i entry f m n here before own =
     }
   where
     all : repairs_of (take (i + 1) entries) ≡ repairs_of (take i entries) + repairs_in entry.table
-    all = ap (λ k. repairs_of (take k entries)) (let s : i + 1 ≡ suc i = omega arith in s) ∙ sum-more (λ (e : Entry). repairs_in e.table) entries i entry here
+    all = ap (λ k. repairs_of (take k entries)) (let s : i + 1 ≡ suc i = omega arith in s) ∙ sum_by-next (λ (e : Entry). repairs_in e.table) entries i entry here
 
 pub outside-none : (entries : List Entry) (page : ℕ → List ℕ) → OutsideStands (take 0 entries) page page
 outside-none entries page q beside = refl

@@ -1,4 +1,3 @@
-pub mod Appends
 pub mod CallsInTurn
 pub mod Outsides
 pub mod Apart

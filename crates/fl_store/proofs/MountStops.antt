@@ -1,19 +1,19 @@
 -- Where a mount of tables stops.
 use Rattle.std.proofs.Common.{◌≡◌, ℕ, ◌<◌, ◌≤◌, true, false, Some, List, length, get_or, refl, sym, ◌∙◌, ap, arith, slice_get}
-use Rattle.std.proofs.lemmas.Option.{slice_get_within}
+use Rattle.std.proofs.lemmas.Option.{slice_get_within, slice_get_read}
 use Rattle.fl_rlc.specs.Table.{is_running}
 use Rattle.fl_rlc.specs.declared.table.LoggedTable.{LoggedTable}
 use Rattle.fl_store.specs.Tables.{StopsAt, entries_with}
 use Rattle.fl_store.specs.declared.tables.BadMount.{BadMount}
 use Rattle.fl_store.specs.declared.tables.Entry.{Entry}
-use Rattle.fl_store.proofs.TablesChanged.{item-there, set-there, set-elsewhere}
+use Rattle.fl_store.proofs.TablesChanged.{set-there, set-elsewhere}
 
 -- the name stands
 pub name-after : (so_far : List Entry) (i : ℕ) (entry : Entry) (t : LoggedTable 64 64) (e : Entry) → slice_get so_far i ≡ Some entry → e ≡ get_or (entries_with so_far i entry t) i e → entry.name ≡ e.name
 name-after so_far i entry t e here is =
     let now : Entry = record { name = entry.name; table = t } in
     let stands : slice_get (entries_with so_far i entry t) i ≡ Some now = set-there so_far i entry now here in
-    let there : slice_get (entries_with so_far i entry t) i ≡ Some e = item-there (entries_with so_far i entry t) (length (entries_with so_far i entry t)) i e refl (slice_get_within (entries_with so_far i entry t) i now stands) is in
+    let there : slice_get (entries_with so_far i entry t) i ≡ Some e = slice_get_read (entries_with so_far i entry t) (length (entries_with so_far i entry t)) i e refl (slice_get_within (entries_with so_far i entry t) i now stands) is in
     let same : now ≡ e = cc (sym stands ∙ there) in
     ap (λ (x : Entry). x.name) same
 

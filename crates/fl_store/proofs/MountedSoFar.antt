@@ -5,6 +5,7 @@ use Rattle.std.proofs.lemmas.Bool.Decides.{eqb_tells}
 use Rattle.std.proofs.lemmas.List.{drop_all, length-map}
 use Rattle.std.proofs.Math.Path.{fun_ext}
 use Rattle.std.proofs.lemmas.Option.{slice_get-map, slice_get_within, slice_get_past, none-some}
+use Rattle.std.proofs.lemmas.Iterator.Adapters.{option_map_id}
 use Rattle.fl_flash.specs.Flash.{FlashState, Goes, page_at}
 use Rattle.fl_flash.specs.declared.flash.FlashFault.{FlashFault}
 use Rattle.fl_flash.specs.declared.flash.FlashFault.TheVariants.{Media}
@@ -15,7 +16,7 @@ use Rattle.fl_model.specs.Table.{lose}
 use Rattle.fl_model.specs.Work.{Device, Finished, changed_at, PartEnd, Whole}
 use Rattle.fl_model.specs.Within.{TableMounts, TableMountEnd, TableMounted, TableStopped, TableUnread, MountsAlong, with_table, progress_at, outcome_at}
 use Rattle.fl_model.proofs.Among.{changed-there, changed-elsewhere}
-use Rattle.fl_model.proofs.Lists.{slice_get-some}
+use Rattle.fl_model.proofs.Lists.{slice_get-some, drop-at}
 use Rattle.fl_model.proofs.MountAmongTables.{mounts-along}
 use Rattle.fl_frame.specs.Device.{SameDevice}
 use Rattle.fl_machine.specs.Step.{all_ready, made_ready}
@@ -29,7 +30,7 @@ use Rattle.fl_rlc.specs.declared.table.LoggedTable.{LoggedTable}
 use Rattle.fl_store.specs.Tables.{first_of, entries_with, EntryStands, TablesStand, FaultIs, TablesMounted, TablesBroken, MountBreaks}
 use Rattle.fl_store.specs.declared.tables.Entry.{Entry}
 use Rattle.fl_store.proofs.CallsInTurn.{planned-same}
-use Rattle.fl_store.proofs.TablesChanged.{entry-off, some-is, AtPlace, at-place, tables-changed, option_map-same, length-changed}
+use Rattle.fl_store.proofs.TablesChanged.{entry-off, some-is, AtPlace, at-place, tables-changed, length-changed}
 
 -- a table that was mounted is ready
 abbrev shown_so : ℕ → ℕ → Plan → model.Table → model.Table
@@ -94,11 +95,6 @@ module _ (plans : List Plan) (start : List model.Table) (rose : Bool) (device : 
 
   turns : turns_from k (drop k plans) ≡ map (λ turn. (k, turn)) (turns_of own.plan) ++ turns_from (k + 1) (drop (k + 1) plans)
   turns = ap (λ (ps : List Plan). turns_from k ps) (drop-at plans k own.plan own.plan_is ∙ ap (λ n. own.plan ∷ drop n plans) (let e : suc k ≡ k + 1 = omega arith in e))
-    where
-      drop-at : (ps : List Plan) (n : ℕ) (plan : Plan) → slice_get ps n ≡ Some plan → drop n ps ≡ plan ∷ drop (suc n) ps
-      drop-at [] n plan e = absurd (none-some plan e)
-      drop-at (p ∷ ps) zero plan e = let is : p ≡ plan = cc in ap (λ x. x ∷ ps) is
-      drop-at (p ∷ ps) (suc n) plan e = drop-at ps n plan e
 
   -- what it mounts
   along : (how : TableMountEnd) → TableMounts own.plan rose (turns_of own.plan) so_far.now was how → MountsAlong plans rose k (turns_of own.plan) (turns_from (k + 1) (drop (k + 1) plans)) so_far.now so_far.tables how
@@ -139,7 +135,7 @@ module _ (plans : List Plan) (start : List model.Table) (rose : Bool) (device : 
         power = w.power;
         stand = tables-changed f g (λ i. nat_lt i k) (λ i. nat_lt i (k + 1)) plans entries so_far.shown shown_now k entry now_there (λ x. x) (made_ready own.plan state) so_far.stand here outside goes.geometry
             (length-changed k (made_ready own.plan state) so_far.shown) (changed-there k own.table (made_ready own.plan state) so_far.shown own.table_is)
-            (λ i other. changed-elsewhere k i (made_ready own.plan state) so_far.shown other ∙ sym (option_map-same (slice_get so_far.shown i)))
+            (λ i other. changed-elsewhere k i (made_ready own.plan state) so_far.shown other ∙ sym (option_map_id (slice_get so_far.shown i)))
             (λ plan e. subst (λ p. EntryStands now_there g (nat_lt k (k + 1)) (first_of plans k) p (made_ready own.plan state)) (some-is (slice_get plans k) own.plan plan own.plan_is e) stands)
             (λ i plan e x other h. subst (λ b. EntryStands e g b (first_of plans i) plan x) (ahead i other) h);
         all = length-changed k state so_far.tables ∙ so_far.all;

@@ -1,9 +1,8 @@
 -- An image has a table with a name, or it has none.
-use Rattle.std.proofs.Common.{true, false, None, List, ℕ, refl, arith}
+use Rattle.std.proofs.Common.{true, false, None, List, ℕ, arith}
 use Rattle.std.proofs.lemmas.Option.{slice_get_within}
-use Rattle.fl_flash.specs.Media.{MediaState}
 use Rattle.fl_image.specs.Header.{IsAccepted}
-use Rattle.fl_image.specs.Image.{IsImageOf, OnlyLooksAt}
+use Rattle.fl_image.specs.Image.{IsImageOf}
 use Rattle.fl_model.proofs.Lists.{slice_get-some}
 use Rattle.fl_words.specs.Config.{Lines}
 use Rattle.fl_store.specs.Named.{IsImageWith}
@@ -19,6 +18,3 @@ module _ (bytes : List ℕ) (name : List ℕ) (lines : Lines) (entries : List En
   image-with at named =
       let plan = slice_get-some lines.plans at (omega (arith, slice_get_within entries at named.entry named.here, new.as_many)) in
       record { lines = lines; accepted = accepted; image = image; named = name-there lines.plans at name plan.0 plan.1 (first-named lines.plans entries (new-named entries lines new) name at named plan.0 plan.1).0 }
-
-pub looks-same : (medium : MediaState) → OnlyLooksAt medium medium
-looks-same medium = record { tells = refl; content = refl; later = omega arith }

@@ -25,9 +25,6 @@ looks-keeps old new looks = record {
   later = looks.later;
 }
 
-pub looks-then : (a b c : MediaState) → OnlyLooksAt a b → OnlyLooksAt b c → OnlyLooksAt a c
-looks-then a b c first second = record { tells = second.tells ∙ first.tells; content = second.content ∙ first.content; later = omega (arith, first.later, second.later) }
-
 pub keeps-then : (a b c : MediaState) → OnlyLooksAt a b → Keeps b c → Keeps a c
 keeps-then a b c looks keeps = record {
   tells = keeps.tells ∙ looks.tells;

@@ -1,15 +1,15 @@
 -- The table with a name, among tables and among their plans.
-use Rattle.std.proofs.Common.{◌≡◌, ℕ, zero, suc, ◌+◌, ◌<◌, Bool, true, false, ◌||◌, if◌then◌else◌, Option, None, Some, List, [], ◌∷◌, refl, sym, ◌∙◌, ap, arith, find, slice_get}
+use Rattle.std.proofs.Common.{◌≡◌, ℕ, zero, suc, ◌+◌, ◌<◌, Bool, true, false, if◌then◌else◌, Option, None, Some, List, [], ◌∷◌, refl, sym, ◌∙◌, ap, arith, find, slice_get}
 use Rattle.std.proofs.lemmas.Option.{slice_get_within, none-some, same_Some}
-use Rattle.fl_config.proofs.Names.{bytes_equal-other}
+use Rattle.std.proofs.Math.Bool.{or-true}
 use Rattle.fl_flash.specs.Flash.{FlashState}
 use Rattle.fl_model.specs.Record.{Plan, bytes_equal}
 use Rattle.fl_model.specs.Table as model
 use Rattle.fl_model.proofs.Lists.{slice_get-some}
+use Rattle.fl_model.proofs.Names.{bytes_equal-other, bytes_equal-own}
 use Rattle.fl_machine.specs.Step.{Located, located_from}
 use Rattle.fl_store.specs.Tables.{IsNamed, Names, AreNewTables, TablesStand}
 use Rattle.fl_store.specs.declared.tables.Entry.{Entry}
-use Rattle.fl_store.proofs.NamesInTables.{bytes_equal-own}
 use Rattle.fl_store.proofs.TablesChanged.{AtPlace, some-is}
 use Rattle.fl_words.specs.Config.{Lines}
 use Rattle.fl_store.specs.Named.{has_name}
@@ -62,11 +62,7 @@ name-there (q ∷ plans) zero name plan p named =
     let plan_is = same_Some q plan p in
     let own : bytes_equal q.name name ≡ true = ap (bytes_equal q.name) (sym named ∙ ap (λ (r : Plan). r.name) (sym plan_is)) ∙ bytes_equal-own q.name in
     rw own refl
-name-there (q ∷ plans) (suc at) name plan p named = rw (name-there plans at name plan p named) (either (bytes_equal q.name name))
-  where
-    either : (b : Bool) → (b || true) ≡ true
-    either true = refl
-    either false = refl
+name-there (q ∷ plans) (suc at) name plan p named = rw (name-there plans at name plan p named) (or-true (bytes_equal q.name name))
 
 pub name-none : (plans : List Plan) (name : List ℕ) → ((i : ℕ) (other : Plan) → slice_get plans i ≡ Some other → other.name ≡ name → ⊥) → has_name name plans ≡ false
 name-none [] name others = refl

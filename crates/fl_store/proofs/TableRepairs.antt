@@ -2,10 +2,12 @@
 use Rattle.std.proofs.Common.{◌≡◌, ◌⊎◌, ℕ, Bool, false, suc, ◌+◌, ◌*◌, ◌<◌, ◌≤◌, Some, List, inl, inr, refl, sym, ◌∙◌, ap, subst, arith, slice_get, mul-le-mul_right}
 use Rattle.std.proofs.lemmas.Bool.{cases_lt}
 use Rattle.fl_base.specs.declared.types.Geometry.{Geometry}
+use Rattle.fl_base.proofs.Risen.{rose-front}
 use Rattle.fl_flash.specs.Flash.{FlashState, Goes, page_at}
 use Rattle.fl_model.specs.Record.{Plan, blocks_of}
 use Rattle.fl_model.specs.Table as model
 use Rattle.fl_model.specs.Work.{Device}
+use Rattle.fl_model.proofs.Lists.{sum_by-next}
 use Rattle.fl_frame.specs.Watched.{IsWatched}
 use Rattle.fl_rlc.specs.Left as one_table
 use Rattle.fl_rlc.specs.Left.{LeavesPages}
@@ -16,9 +18,7 @@ use Rattle.fl_store.specs.Mounting.{AreUnlogged}
 use Rattle.fl_store.specs.Repaired.{IsRepaired, IsLeft}
 use Rattle.fl_store.specs.Tables.{first_of, TablesStand}
 use Rattle.fl_store.specs.declared.tables.Entry.{Entry}
-use Rattle.fl_store.proofs.CallsInTurn.{rose-front}
 use Rattle.fl_store.proofs.TablesChanged.{at-place}
-use Rattle.fl_store.proofs.TablesReads.{sum-more}
 
 -- each page of the first tables is left so, and all others stand
 pub record LeavesFirst (plans : List Plan) (geometry : Geometry) (i : ℕ) (old new : ℕ → List ℕ) : Type 0 where
@@ -33,7 +33,7 @@ left-more : (plans : List Plan) (geometry : Geometry) (i : ℕ) (plan : Plan) (a
 left-more plans geometry i plan a b c is same so_far h = subst (λ (g : Geometry). LeavesFirst plans g i a b → LeavesFirst plans g (i + 1) a c) same more so_far
   where
     next : first_of plans (i + 1) ≡ first_of plans i + blocks_of plan
-    next = ap (λ k. first_of plans k) (let s : i + 1 ≡ suc i = omega arith in s) ∙ sum-more blocks_of plans i plan is
+    next = ap (λ k. first_of plans k) (let s : i + 1 ≡ suc i = omega arith in s) ∙ sum_by-next blocks_of plans i plan is
 
     upto : (page : ℕ) → first_of plans (i + 1) * plan.geometry.block ≤ page → (first_of plans i + blocks_of plan) * plan.geometry.block ≤ page
     upto page le = subst (λ (n : ℕ). n * plan.geometry.block ≤ page) next le

@@ -1,8 +1,8 @@
 -- The tables of an image after one of them was changed.
-use Rattle.std.proofs.Common.{◌≡◌, ℕ, zero, suc, ◌<◌, ◌⊎◌, Bool, true, false, inl, inr, Option, None, Some, List, [], ◌∷◌, length, map, set, get_or, refl, sym, ◌∙◌, ap, subst, arith, MatchBool, option_map, eqb, slice_get}
+use Rattle.std.proofs.Common.{◌≡◌, ℕ, zero, suc, ◌⊎◌, Bool, true, false, inl, inr, Option, Some, List, [], ◌∷◌, length, map, set, refl, sym, ◌∙◌, ap, subst, arith, MatchBool, option_map, eqb, slice_get}
 use Rattle.std.proofs.lemmas.Bool.Decides.{eqb_tells}
 use Rattle.std.proofs.lemmas.List.{length-set, length-map}
-use Rattle.std.proofs.lemmas.Option.{slice_get-map, slice_get_within, slice_get_read, none-some}
+use Rattle.std.proofs.lemmas.Option.{slice_get-map, slice_get_within, none-some}
 use Rattle.fl_flash.specs.Flash.{FlashState, page_at}
 use Rattle.fl_model.specs.Record.{Plan}
 use Rattle.fl_model.specs.Table as model
@@ -45,16 +45,8 @@ length-changed n x [] = refl
 length-changed zero x (y ∷ ys) = refl
 length-changed (suc n) x (y ∷ ys) = ap suc (length-changed n x ys)
 
-pub option_map-same : {X : Type 0} (o : Option X) → option_map (λ x. x) o ≡ o
-option_map-same None = refl
-option_map-same (Some x) = refl
-
 pub some-is : {X : Type 0} (o : Option X) (a b : X) → o ≡ Some a → o ≡ Some b → a ≡ b
 some-is o a b e k = cc
-
--- an element that was read
-pub item-there : {X : Type 0} (xs : List X) (n i : ℕ) (x : X) → n ≡ length xs → i < n → x ≡ get_or xs i x → slice_get xs i ≡ Some x
-item-there xs n i x len lt is = slice_get_read xs n i x len lt is
 
 -- what stands at a place of the tables
 pub record AtPlace (f : FlashState) (mounted : ℕ → Bool) (plans : List Plan) (entries : List Entry) (tables : List model.Table) (at : ℕ) (entry : Entry) : Type 0 where

@@ -6,6 +6,7 @@ use Rattle.fl_model.proofs.Lists.{slice_get-push}
 use Rattle.fl_base.specs.declared.types.RingPlace.{RingPlace}
 use Rattle.fl_plan.specs.Plan.{IsConfigOf, IsRingAt, blocks_in}
 use Rattle.fl_plan.specs.declared.table_config.TableConfig.{TableConfig}
+use Rattle.fl_plan.proofs.RingPlaces.{ring-blocks}
 use Rattle.fl_flash.specs.Flash.{FlashState, pages}
 use Rattle.fl_rlc.specs.Table.{IsPlanned, LiesOn, is_running}
 use Rattle.fl_rlc.specs.declared.table.LoggedTable.{LoggedTable}
@@ -57,10 +58,6 @@ log-within : (log : Option RingPlace) (first blocks : ℕ) (plan : Plan) → IsR
 log-within None first blocks plan at within = tt
 log-within (Some place) first blocks plan at within = omega (arith, at.0, at.1, within)
 
-log-size : (log : Option RingPlace) (at blocks : ℕ) → IsRingAt log at blocks → blocks ≡ blocks_in log
-log-size None at blocks h = h
-log-size (Some place) at blocks h = sym h.1
-
 log-first : (log : Option RingPlace) (first own : ℕ) (plan : Plan) → own ≡ first → IsRingAt log (first + plan.data_blocks + plan.index_blocks + plan.var_blocks) plan.log_blocks → IfSome log (λ place. place.first_block ≡ own + blocks_of (bare plan))
 log-first None first own plan is at = tt
 log-first (Some place) first own plan is at = omega (arith, is, at.0)
@@ -72,7 +69,7 @@ new-table lines i plan config log name t p for made =
     let of : IsConfigOf config (bare plan) = subst (λ o. IfSome o (λ plan. IsConfigOf config (bare plan))) p for.planned in
     let name_is : name ≡ plan.name = subst (λ o. IfSome o (λ (plan : Plan). name ≡ plan.name)) p for.named in
     let at = subst (λ o. IfSome o (λ (plan : Plan). IsRingAt log (first_of lines.plans i + plan.data_blocks + plan.index_blocks + plan.var_blocks) plan.log_blocks)) p for.behind in
-    let own = made.planned plan of (log-size log (first_of lines.plans i + plan.data_blocks + plan.index_blocks + plan.var_blocks) plan.log_blocks at) (log-first log (first_of lines.plans i) config.rows.first_block plan for.first at) in
+    let own = made.planned plan of (sym (ring-blocks log (first_of lines.plans i + plan.data_blocks + plan.index_blocks + plan.var_blocks) plan.log_blocks at)) (log-first log (first_of lines.plans i) config.rows.first_block plan for.first at) in
     record {
       named = sym name_is;
       device = for.device ∙ ap Some (geometry-of config plan of);

@@ -1,6 +1,7 @@
 -- A mount that failed over a flash that stands for tables: it was the medium that failed.
 use Rattle.std.proofs.Common.{◌≡◌, ℕ, ◌⊎◌, inl, inr, Bool, true, false, IsTrue, Option, List, map, refl}
 use Rattle.fl_base.specs.Causes.{Rose}
+use Rattle.fl_base.proofs.Appended.{appends-none}
 use Rattle.fl_flash.specs.Flash.{FlashState}
 use Rattle.fl_flash.specs.declared.flash.FlashFault.{FlashFault}
 use Rattle.fl_flash.specs.declared.flash.FlashFault.TheVariants.{PowerLost, Media}
@@ -15,7 +16,6 @@ use Rattle.fl_parts.specs.declared.mount_fault.MountFault.TheVariants as mount
 use Rattle.fl_store.specs.Tables.{first_of, FaultIs, TablesStand, TablesBroken, MountBreaks}
 use Rattle.fl_store.specs.declared.tables.Entry.{Entry}
 use Rattle.fl_store.proofs.TablesChanged.{entry-off, tables-become}
-use Rattle.fl_store.proofs.Appends.{appends-none}
 use Rattle.fl_store.specs.Store.{at_rest}
 use Rattle.fl_store.specs.Named.{has_name}
 use Rattle.fl_store.specs.MountEnds.{MountFails, told_of}

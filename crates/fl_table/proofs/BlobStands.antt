@@ -16,10 +16,10 @@ use Rattle.fl_frame.specs.Watched.{IsWatched}
 use Rattle.fl_parts.specs.Bitmaps as bitmaps
 use Rattle.fl_parts.specs.Blobs as variable
 use Rattle.fl_parts.specs.Blobs.{Stand, StandOutside, IsStanding, RestEndsOf, RestEnds, rest_seals, next_of, next_after}
-use Rattle.fl_parts.proofs.BlobRests.{IsRested, RestedEnds, rest_few, kept-var, fault_ends}
+use Rattle.fl_parts.proofs.BlobRests.{RestedEnds, rest_few, kept-var, fault_ends}
 use Rattle.fl_table.specs.Memory.{IsPlanned}
-use Rattle.fl_parts.specs.Failing.{Breaks, FaultEnds, BySeals}
-use Rattle.fl_parts.specs.Pages.{HoldsTable, KeptStand, bytes_in}
+use Rattle.fl_parts.specs.Failing.{Breaks, BySeals}
+use Rattle.fl_parts.specs.Pages.{HoldsTable, bytes_in}
 use Rattle.fl_table.specs.Standing.{Stands}
 use Rattle.fl_table.specs.declared.table.Table as code
 use Rattle.fl_parts.proofs.BlobSeals.{with_var, blobs-break, blobs-finish, facts-with_var, seals-keep}

@@ -30,7 +30,7 @@ use Rattle.fl_parts.proofs.Plain.{table-parts}
 
 -- ---- keys
 
-few-keys : {KNOTS SLOTS : ℕ} (t : Table KNOTS SLOTS) (first : ℕ) (plan : Plan) → IsPlanned t first plan → key_limit plan < 2 ^ 64
+pub few-keys : {KNOTS SLOTS : ℕ} (t : Table KNOTS SLOTS) (first : ℕ) (plan : Plan) → IsPlanned t first plan → key_limit plan < 2 ^ 64
 few-keys t first plan planned = subst (λ (layout : RowLayout). greatest_key layout < 2 ^ 64) (sym planned.layout) (by_width t.schema.key)
   where
     by_width : (key : KeyWidth) → greatest_key (layout_with key (types_of t.schema) t.schema.blobs) < 2 ^ 64

@@ -29,6 +29,7 @@ use Rattle.fl_page.specs.View.{rows_of}
 use Rattle.fl_page.specs.declared.view.PageView.{PageView}
 use Rattle.fl_page.specs.declared.fault.ReadFault.{ReadFault}
 use Rattle.fl_page.specs.declared.fault.ReadFault.TheVariants as fault
+use Rattle.fl_page.specs.Causes.{IsCaused}
 use Rattle.fl_ring.specs.Place.{shape_of, next_of, oldest_of}
 use Rattle.fl_ring.specs.Ring.{Shape, place}
 use Rattle.fl_ring.specs.declared.ring.Ring.{Ring}
@@ -245,6 +246,11 @@ lookup-fails t ring old (fault.BadPage bad) new is h = (λ told. of (h.0 told), 
       kept = (omega (arith, oldest-in t ring is, page.kept.from), omega (arith, next-in t ring is, page.kept.before));
       is_bad = subst (λ p. IsBadPage (layout_of t.schema) page.number (page_at old p) bad) (sym (ring-place t ring page.number is)) page.is_bad;
     }
+
+pub lookup-caused : {KNOTS SLOTS : ℕ} (t : Table KNOTS SLOTS) (old new : FlashState) (e : ReadFault) → LookupFails t old e new → IsCaused old e new
+lookup-caused t old new (fault.Flash PowerLost) fails = fails.0
+lookup-caused t old new (fault.Flash Media) fails = fails
+lookup-caused t old new (fault.BadPage bad) fails = tt
 
 -- of a covered key the page that is blamed is the newest bad one that was looked at
 pub lookup-blames : {KNOTS SLOTS : ℕ} (t : Table KNOTS SLOTS) (ring : Ring) (f : FlashState) (key : ℕ) (e : ReadFault) → t.ring ≡ Some ring → BlamesBelow (layout_of t.schema) ring f (window_end t.index (next_of ring) key) key e → BlamesFor t f key e

@@ -11,20 +11,21 @@ use Rattle.fl_index.specs.Standing as standing
 use Rattle.fl_index.specs.Standing.{HasIndex}
 use Rattle.fl_index.proofs.SealEnds.{planned-ring}
 use Rattle.fl_model.specs.Facts.{IsTable}
-use Rattle.fl_model.specs.Index.{IndexEntry, IndexPage}
 use Rattle.fl_model.specs.Record.{Plan, has_index, entries_per_page}
 use Rattle.fl_model.specs.Ring as model
 use Rattle.fl_model.specs.Table.{Table, RingName, DataRing, IndexRing, VarRing, is_dirty, seal_buffer, after_seals, lose, spent_from}
 use Rattle.fl_model.specs.Work.{Kind, Body, Mark, Erase, Device, PartEnd, Whole, CutIn, FailedIn, PartProgress}
-use Rattle.fl_model.specs.Within.{seal_within, seals_within, effect_within, TablePerforms}
+use Rattle.fl_model.specs.Within.{seal_within, seals_within, TablePerforms}
+use Rattle.fl_model.proofs.Fronts.{performed-front}
+use Rattle.fl_model.proofs.Lists.{each-front}
 use Rattle.fl_ring.specs.Ring.{Shape, OutsideStands}
 use Rattle.fl_frame.specs.Device.{SameDevice}
 use Rattle.fl_frame.specs.Watched.{IsWatched}
-use Rattle.fl_parts.proofs.Fronts.{front-left, IsNumberedTo}
+use Rattle.fl_parts.proofs.Fronts.{IsNumberedTo}
 use Rattle.fl_parts.specs.Bitmaps.{ArePlanned, Stand, StandOutside, IsRoomMade, RoomMade, MakesRoomOf, bitmap_seals, next_after}
-use Rattle.fl_parts.proofs.IndexAlone.{AreOfIndex, front_of, IsBeside, beside-done, number-done, seal-of_index, indexed-of, beside-facts, rows-stand, var-stand, holds-indexed, lose-beside, holds-beside}
+use Rattle.fl_parts.proofs.IndexAlone.{IsOfIndex, AreOfIndex, IsBeside, beside-done, number-done, seal-of_index, indexed-of, beside-facts, rows-stand, var-stand, holds-indexed, lose-beside, holds-beside}
 use Rattle.fl_parts.specs.Failing.{Breaks, FaultEnds, BySeals}
-use Rattle.fl_parts.specs.Pages.{HoldsTable, KeptStand, bytes_in, place_in}
+use Rattle.fl_parts.specs.Pages.{HoldsTable, KeptStand, bytes_in}
 use Rattle.fl_table.specs.Standing.{Stands}
 use Rattle.fl_table.specs.declared.table.Table as code
 use Rattle.fl_parts.proofs.TablePages.{lost-twice}
@@ -111,8 +112,8 @@ module _ {KNOTS SLOTS : ℕ} (t : code.Table KNOTS SLOTS) (f new : FlashState) (
       Breaks first plan (BySeals plan (outcomes.index_seals plan table) table rose device) fault new
   index-breaks fault h =
       let operations = seals_within plan (outcomes.index_seals plan table) table in
-      let left_is = front-left (λ (o : RingName × Kind). o.1) (effect_within plan) rose operations device table h.now h.did in
-      let of_front = front_of left_is.front left_is.others (subst AreOfIndex left_is.split are_of_index) in
+      let left_is = performed-front plan rose operations device table h.now h.did in
+      let of_front = each-front (λ (operation : RingName × Kind). IsOfIndex operation.0) left_is.front left_is.others (subst AreOfIndex left_is.split are_of_index) in
       let beside : IsBeside table h.now.state = subst (λ (x : Table). IsBeside table x) (sym left_is.state) (beside-done plan table table left_is.front of_front (table.index, table.index_pages, table.waiting, refl)) in
       let numbered = number-done plan (memory.next_in index) table left_is.front of_front (subst (λ (o : Option model.Ring). IsNumberedTo (memory.next_in index) o) (sym in_model.in_ring.facts.ring_is) at_first) in
       let few : length left_is.front ≤ 3 = omega (arith, ap length left_is.split, length-append left_is.front left_is.others, few_operations) in

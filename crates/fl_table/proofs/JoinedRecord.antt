@@ -9,7 +9,7 @@ use Rattle.fl_model.specs.Facts.{FitsPlan}
 use Rattle.fl_model.specs.Record.{Record, Plan, has_var, content_per_page}
 use Rattle.fl_model.specs.Ring.{Ring}
 use Rattle.std.proofs.lemmas.Bool.{false≢true}
-use Rattle.fl_model.specs.Table.{Table, RingName, IndexRing, fill, blob_len, fill_seals, after_seals, with_record, lose, spent_from}
+use Rattle.fl_model.specs.Table.{Table, RingName, IndexRing, blob_len, fill_seals, after_seals, with_record, lose, spent_from}
 use Rattle.fl_model.specs.Within.{seals_within, TablePerforms}
 use Rattle.fl_model.specs.Work.{Device, Whole, PartProgress}
 use Rattle.fl_frame.specs.Device.{SameDevice}

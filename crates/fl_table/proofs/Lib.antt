@@ -9,6 +9,7 @@ pub mod Counted
 pub mod MountIndexed
 pub mod MountJoined
 pub mod Paged
+pub mod PlannedLayout
 pub mod RowsLeft
 pub mod SealAnswers
 pub mod Refusals

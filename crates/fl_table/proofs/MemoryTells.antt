@@ -1,9 +1,10 @@
 -- What a table in memory tells of the table of the model for which it stands.
-use Rattle.std.proofs.Common.{◌≡◌, ℕ, ◌+◌, ◌-◌, ◌%◌, ◌<◌, ◌≤◌, ◌==◌, false, Option, None, Some, is_some, option_map, unwrap_or, map, length, get_or, refl, sym, ◌∙◌, ap, arith}
+use Rattle.std.proofs.Common.{◌≡◌, ℕ, ◌+◌, ◌-◌, ◌%◌, ◌<◌, ◌≤◌, ◌==◌, false, Option, Some, option_map, unwrap_or, map, length, get_or, sym, ◌∙◌, ap, arith}
 use Rattle.std.proofs.lemmas.List.{ext_get_or}
 use Rattle.std.proofs.lemmas.List.FromFn.{length-map-range_with_len, get_or-map-range_with_len}
 use Rattle.std.proofs.lemmas.Option.{get_or_from_slice_get}
 use Rattle.std.specs.List.{slice_get, sum, count_by, range_with_len}
+use Rattle.fl_base.proofs.Tests.{none_from}
 use Rattle.fl_flash.specs.Flash.{FlashState}
 use Rattle.fl_model.specs.Record.{Plan}
 use Rattle.fl_model.specs.Ring as rings
@@ -84,10 +85,6 @@ counts-by t ring =
     let counts = map (rows_noted t) (range_with_len from many) in
     record { rows = sum counts + pending_in t; pending = pending_in t; pages = many; voids = count_by (λ count. count == 0) counts }
 
-no-ring : (ring : Option Ring) → is_some ring ≡ false → ring ≡ None
-no-ring None e = refl
-no-ring (Some ring) e = absurd (cc e)
-
 -- .. and one without a ring
 pub counts-lost : {KNOTS SLOTS : ℕ} (t : Table KNOTS SLOTS) → is_running t ≡ false → counts_in t ≡ lost_counts t
-counts-lost t e = ap (counts-by t) (no-ring t.ring e) ∙ ap (λ (rows : ℕ). record { rows = rows; pending = pending_in t; pages = 0; voids = 0 }) (let z : 0 + pending_in t ≡ pending_in t = omega arith in z)
+counts-lost t e = ap (counts-by t) (none_from t.ring e) ∙ ap (λ (rows : ℕ). record { rows = rows; pending = pending_in t; pages = 0; voids = 0 }) (let z : 0 + pending_in t ≡ pending_in t = omega arith in z)

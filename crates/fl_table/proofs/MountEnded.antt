@@ -4,7 +4,9 @@ use Rattle.std.specs.List.{slice_get, sum}
 use Rattle.std.proofs.lemmas.Bool.{cases_lt}
 use Rattle.std.proofs.Common.{◌≡◌, ℕ, ◌+◌, ◌-◌, ◌*◌, ◌%◌, ◌≤◌, min, max, Bool, true, false, cond, ◌==◌, Option, Some, None, Result, Ok, Err, List, [], ◌∷◌, IfSome, map, length, drop, get_or, refl, sym, ◌∙◌, ap, subst, ◌⊎◌, inl, inr, arith, IsTrue, ◌<◌, take}
 use Rattle.std.proofs.lemmas.Option.{none-some}
+use Rattle.std.proofs.lemmas.List.{drop_all}
 use Rattle.fl_base.specs.Causes.{Rose}
+use Rattle.fl_base.proofs.Tests.{zero_either}
 use Rattle.fl_flash.specs.Flash.{FlashState, page_at}
 use Rattle.fl_flash.specs.Places.{extent}
 use Rattle.fl_flash.specs.declared.armed.Armed.{Armed}
@@ -21,6 +23,7 @@ use Rattle.fl_model.specs.Facts.{IsTable, IsSettled}
 use Rattle.fl_model.specs.Work.{Device, PartProgress}
 use Rattle.fl_model.specs.Within.{TableMounts, TableStopped, TableUnread}
 use Rattle.fl_model.proofs.Lists.{slice_get-some, take_none}
+use Rattle.fl_ring.proofs.InTable.{TableAnswers}
 use Rattle.fl_parts.proofs.BlobTables.{HoldsVar}
 use Rattle.fl_parts.proofs.BlobsOfTable.{var-as, var-same}
 use Rattle.fl_table.proofs.MountCalls.{OthersStill}
@@ -73,7 +76,6 @@ use Rattle.fl_parts.specs.declared.mount_fault.MountFault.{MountFault}
 use Rattle.fl_parts.specs.declared.mount_fault.MountFault.TheVariants as mount
 use Rattle.fl_table.specs.declared.table.Table as code
 use Rattle.fl_parts.proofs.TablePages.{plain-on, plain-holds}
-use Rattle.fl_parts.proofs.RingInTable.{TableAnswers}
 use Rattle.fl_parts.proofs.MountGood.{ring-renumbered, numbered-facts, numbered-idle, good-ring}
 use Rattle.fl_parts.proofs.MountLifted.{RowsMount, mount-lifts, mount-fails}
 use Rattle.fl_table.proofs.MountComes.{pages-hold}
@@ -282,18 +284,7 @@ module _ (first : ℕ) (plan : Plan) (table : Table) (rose : Bool) (device : Dev
         by_fault (mount.BadBlob page next) only fails refused = absurd (cc only)
 
     nothing_pending : pending_entries (ready plan l.now.state) ≡ []
-    nothing_pending = ap (λ k. drop (length l.now.state.entries - k) l.now.state.entries) l.repaired.idle.pending ∙ gone l.now.state.entries
-      where
-        rest : (xs : List Entry) → drop (length xs) xs ≡ []
-        rest [] = refl
-        rest (x ∷ xs) = rest xs
-
-        gone : (xs : List Entry) → drop (length xs - 0) xs ≡ []
-        gone xs = ap (λ k. drop k xs) (let e : length xs - 0 ≡ length xs = omega arith in e) ∙ rest xs
-
-    no_values : (b : Bool) → ◌≡◌ {A = ℕ} (cond b 0 0) 0
-    no_values true = refl
-    no_values false = refl
+    nothing_pending = ap (λ k. drop (length l.now.state.entries - k) l.now.state.entries) l.repaired.idle.pending ∙ drop_all (length l.now.state.entries - 0) l.now.state.entries (omega arith)
 
     -- the entries of the pages that the index doesn't list wait
     many_wait : length (ready plan l.now.state).waiting ≡ waiting_after plan l.now.state
@@ -354,7 +345,7 @@ module _ (first : ℕ) (plan : Plan) (table : Table) (rose : Bool) (device : Dev
           next = l.stands.next;
           oldest = old_is;
           gathers = subst (λ (es : List Entry). Gathers (layout_of t.schema) (map stored_row es) t.writer) (sym nothing_pending) (empty (layout_of t.schema));
-          bitmap = bitmap ∙ sym (ap (bitmap_of plan) nothing_pending ∙ no_values (plan.bits == 0));
+          bitmap = bitmap ∙ sym (ap (bitmap_of plan) nothing_pending ∙ zero_either (plan.bits == 0));
           blob_end = ends ∙ sym (ap end_of_blobs nothing_pending);
           last = last ∙ knows.last;
           counts = λ i count e.
@@ -404,7 +395,7 @@ module _ (first : ℕ) (plan : Plan) (table : Table) (rose : Bool) (device : Dev
                 let zero_is : c ≡ 0 = omega (arith, none) in
                 let nothing : rows_at l.now.state i c ≡ [] = ap (λ k. take k (drop (sum (take i l.now.state.rows.counts)) l.now.state.entries)) zero_is ∙ take_none (drop (sum (take i l.now.state.rows.counts)) l.now.state.entries) in
                 void-bitmap (page_at mid (place_at (shape_in first plan) (model.oldest l.now.state.rows + i))) (omega (arith, mid_sizes (model.oldest l.now.state.rows + i), large)) (image.void i (e ∙ ap (λ (n : ℕ). Some n) zero_is))
-                ∙ sym (ap (bitmap_of plan) nothing ∙ no_values (plan.bits == 0))
+                ∙ sym (ap (bitmap_of plan) nothing ∙ zero_either (plan.bits == 0))
 
     -- the index stands for that of the table that was started, where entries of the data pages wait that it doesn't list
     pub started-stand : {KNOTS SLOTS : ℕ} (t : code.Table KNOTS SLOTS) (c : Come) (now : Option BitmapIndex) (least : ℕ) → IsPlanned t first plan → place.shape_of ring ≡ shape_in first plan → c.layout ≡ layout_of t.schema → c.oldest ≡ oldest_of ring →

@@ -1,10 +1,9 @@
 -- The page of the pending rows, over the seals of a table's rings.
-use Rattle.std.proofs.Common.{◌≡◌, ◌⊎◌, ℕ, ◌+◌, ◌<◌, ◌≤◌, Option, Some, None, IfSome, Ok, List, IsTrue, length, inl, inr, sym, ◌∙◌, ap, subst, arith}
+use Rattle.std.proofs.Common.{◌≡◌, ℕ, ◌≤◌, Option, Some, None, IfSome, Ok, List, IsTrue, length, sym, ◌∙◌, ap, subst}
 use Rattle.fl_flash.specs.Flash.{FlashState, page_at}
 use Rattle.fl_frame.proofs.CallsInTurn.{goes-then}
 use Rattle.fl_index.specs.declared.index.BitmapIndex.{BitmapIndex}
 use Rattle.fl_model.specs.Layout.{rows_body}
-use Rattle.fl_ring.specs.Ring.{room}
 use Rattle.fl_ring.specs.Place.{next_of, shape_of}
 use Rattle.fl_ring.specs.Written.{Writes, sealed_over, MaySealIn}
 use Rattle.fl_ring.specs.declared.ring.Ring.{Ring}

@@ -1,5 +1,5 @@
 -- How a put ends, by what it refused and what it put.
-use Rattle.std.proofs.Common.{◌≡◌, ℕ, ◌+◌, ◌-◌, ◌/◌, ◌≤◌, Bool, true, false, ◌&&◌, Option, Some, None, option_map, Ok, Err, List, length, refl, ◌∙◌, ap, arith}
+use Rattle.std.proofs.Common.{◌≡◌, ℕ, ◌+◌, ◌-◌, ◌/◌, ◌≤◌, Bool, Option, Some, None, option_map, Ok, Err, List, length, refl, ◌∙◌, ap, arith}
 use Rattle.std.proofs.Math.IntN.{ℤ}
 use Rattle.std.proofs.Math.Nat.{le-div_iff_mul-le}
 use Rattle.fl_flash.specs.Flash.{FlashState}
@@ -8,7 +8,7 @@ use Rattle.fl_model.specs.Record.{Record, Plan, RowLayout, layout_len, row_len, 
 use Rattle.fl_model.specs.Table as model
 use Rattle.fl_model.specs.Table.{Table, Refusal, BadKey, BadColumns, BadValue, BadBlob, refusal_of, make_room_seals, after_seals}
 use Rattle.fl_model.specs.Work.{Device}
-use Rattle.fl_parts.proofs.Accepted.{accepted}
+use Rattle.fl_model.proofs.Accepted.{accepted}
 use Rattle.fl_parts.proofs.Plain.{table-parts}
 use Rattle.fl_schema.specs.Schema.{layout_of}
 use Rattle.fl_parts.specs.Accepting.{IsAcceptedBy}
@@ -28,10 +28,6 @@ use Rattle.fl_table.proofs.SealAnswers.{planned-shape}
 pub map-twice : {A B C : Type 0} (g : A → B) (h : B → C) (o : Option A) → option_map h (option_map g o) ≡ option_map (λ a. h (g a)) o
 map-twice g h None = refl
 map-twice g h (Some a) = refl
-
-pub and-true : (b : Bool) → (b && true) ≡ b
-and-true true = refl
-and-true false = refl
 
 -- a refused record
 pub refused-ends : {KNOTS SLOTS : ℕ} (t : code.Table KNOTS SLOTS) (f : FlashState) (first : ℕ) (plan : Plan) (table : Table) (key : ℕ) (values : List ℤ) (blob : Option (List ℕ)) (rose : Bool) (device : Device) → Stands t f first plan table →

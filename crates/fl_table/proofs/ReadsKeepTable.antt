@@ -1,6 +1,6 @@
 -- Reads leave a table as it stands.
-use Rattle.std.proofs.Common.{◌≡◌, ℕ, ◌<◌, ◌≤◌, ◌^◌, ◌*◌, ◌+◌, ◌-◌, Bool, Option, Some, option_map, unwrap_or, refl, sym, ◌∙◌, ap, subst, arith}
-use Rattle.fl_flash.specs.Flash.{FlashState, page_at, pages, StaysWith}
+use Rattle.std.proofs.Common.{◌≡◌, ℕ, ◌≤◌, ◌+◌, ◌-◌, Bool, Option, Some, option_map, unwrap_or, refl, sym, ◌∙◌, subst, arith}
+use Rattle.fl_flash.specs.Flash.{FlashState, page_at, StaysWith}
 use Rattle.fl_frame.specs.Contents as contents
 use Rattle.fl_frame.proofs.ContentsInTurn.{OnlyReads-goes}
 use Rattle.fl_model.specs.Record.{Plan}
@@ -12,7 +12,8 @@ use Rattle.fl_ring.specs.declared.ring.Ring.{Ring}
 use Rattle.fl_frame.proofs.ReadsInTurn.{same_page}
 use Rattle.fl_table.specs.Look.{oldest_in}
 use Rattle.fl_table.specs.Memory.{next_in, LiesOn}
-use Rattle.fl_frame.proofs.CallsInTurn.{stays-set}
+use Rattle.fl_frame.proofs.CallsInTurn.{stays-set, few-goes}
+use Rattle.fl_ring.proofs.Exists.{lies_still}
 use Rattle.fl_parts.specs.Pages.{place_in}
 use Rattle.fl_table.specs.Standing.{Stands}
 use Rattle.fl_table.specs.declared.table.Table.{Table}
@@ -42,20 +43,11 @@ pub lies-moved : {KNOTS SLOTS : ℕ} {Power : Type 0} (t : Table KNOTS SLOTS) (f
 lies-moved t f g goes lies = record {
   geometry = goes.geometry ∙ lies.geometry;
   within = omega (arith, lies.within, goes.blocks);
-  few = subst (λ k. k < 2 ^ 32) (sym pages-same) lies.few;
-  ring = λ ring is.
-      let h = lies.ring ring is in
-      record {
-        page = ap (λ x. x.page) goes.geometry ∙ h.page;
-        block = ap (λ x. x.block) goes.geometry ∙ h.block;
-        within = omega (arith, h.within, goes.blocks);
-      };
+  few = few-goes f g goes lies.few;
+  ring = λ ring is. lies_still ring f g (lies.ring ring is) goes;
   bitmaps = lies-goes t.bitmaps f g goes lies.bitmaps;
   blobs = blobbing.lies-goes t.blobs f g goes lies.blobs;
 }
-  where
-    pages-same : pages g ≡ pages f
-    pages-same = ap (λ k. k * g.geometry.block) goes.blocks ∙ ap (λ x. f.blocks * x.block) goes.geometry
 
 pub lies-still : {KNOTS SLOTS : ℕ} (t : Table KNOTS SLOTS) (f g : FlashState) (n : ℕ) → OnlyReads f n g → LiesOn t f → LiesOn t g
 lies-still t f g n reads lies = lies-moved t f g reads.goes lies

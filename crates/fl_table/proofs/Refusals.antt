@@ -1,9 +1,10 @@
 -- A table refuses as its model does.
 use Rattle.std.proofs.Common.{◌≡◌, ℕ, ◌+◌, Bool, true, false, cond, not, ◌||◌, ◌==◌, nat_le, nat_lt, Option, Some, None, IfSome, Err, subst, is_some, option_map, unwrap_or, List, length, refl, sym, ◌∙◌, ap, arith, ◌<◌, ◌≤◌}
-use Rattle.std.proofs.lemmas.Bool.{ltb-false, leb-false, eqb-true, not-false}
+use Rattle.std.proofs.lemmas.Bool.{ltb-false, leb-false, eqb-true, not-false, or_parts}
 use Rattle.std.specs.Prelude.{if◌then◌else◌}
 use Rattle.std.proofs.Math.IntN.{ℤ}
 use Rattle.std.proofs.lemmas.Option.{none-some}
+use Rattle.std.proofs.Math.Bool.{or-false}
 use Rattle.fl_flash.specs.Flash.{FlashState}
 use Rattle.fl_model.specs.Record.{Record, Plan, RowLayout, row_layout, has_var, key_limit, greatest_key, first_misfit}
 use Rattle.fl_model.specs.Row.{FitsRow}
@@ -109,15 +110,11 @@ module _ {KNOTS SLOTS : ℕ} (t : code.Table KNOTS SLOTS) (f : FlashState) (firs
       ∙ (ap (λ b. refused_if (nat_le spent_from table.rows.next || b || nat_le spent_from (variable.next_of t.blobs)) Spent) (index-spent t.bitmaps f (first + plan.data_blocks) plan table s.planned.index facts.index s.bitmaps)
       ∙ (ap (λ b. refused_if (nat_le spent_from table.rows.next || unwrap_or (option_map (λ ring. nat_le spent_from ring.next) table.index) false || b) Spent)
       (var-spent t.blobs f (first + plan.data_blocks + plan.index_blocks) plan table s.planned.var facts.blobs s.blobs)
-      ∙ (ap (λ b. refused_if b Spent) (sym (or_false spent) ∙ ap (λ (o : Option rings.Ring). spent || unwrap_or (option_map (λ ring. nat_le spent_from ring.next) o) false) (sym facts.bare.0))
+      ∙ (ap (λ b. refused_if b Spent) (sym (or-false spent) ∙ ap (λ (o : Option rings.Ring). spent || unwrap_or (option_map (λ ring. nat_le spent_from ring.next) o) false) (sym facts.bare.0))
       ∙ if_so (is_spent table) model.Spent))))
     where
       spent : Bool
       spent = nat_le spent_from table.rows.next || unwrap_or (option_map (λ ring. nat_le spent_from ring.next) table.index) false || unwrap_or (option_map (λ ring. nat_le spent_from ring.next) table.var) false
-
-      or_false : (b : Bool) → (b || false) ≡ b
-      or_false true = refl
-      or_false false = refl
 
   pub refusals-agree : put_refusal t key values (option_map (λ (xs : List ℕ). length xs) blob) ≡ answer (refusal_of plan table (record { key = key; values = values; blob = blob }))
   refusals-agree =
@@ -160,10 +157,6 @@ not_so : (b : Bool) (r : PutRefusal) → refused_if b r ≡ None → b ≡ false
 not_so true r e = cc
 not_so false r e = refl
 
-or_false : (a b : Bool) → (a || b) ≡ false → (a ≡ false) × (b ≡ false)
-or_false true b e = cc
-or_false false b e = (refl, e)
-
 module _ {KNOTS SLOTS : ℕ} (t : code.Table KNOTS SLOTS) (key : ℕ) (values : List ℤ) (blob : Option ℕ) (e : put_refusal t key values blob ≡ None) where
   last_two : (blob_refused t blob ≡ None) × (spent_refused t ≡ None)
   last_two =
@@ -204,8 +197,8 @@ module _ {KNOTS SLOTS : ℕ} (t : code.Table KNOTS SLOTS) (key : ℕ) (values : 
   pub not-spent : (next_in t < spent_from) × (bitmaps.next_of t.bitmaps < spent_from) × (variable.next_of t.blobs < spent_from)
   not-spent =
       let all = not_so _ Spent last_two.1 in
-      let a = or_false (unwrap_or (option_map (λ ring. nat_le spent_from (next_of ring)) t.ring) false || nat_le spent_from (bitmaps.next_of t.bitmaps)) (nat_le spent_from (variable.next_of t.blobs)) all in
-      let b = or_false (unwrap_or (option_map (λ ring. nat_le spent_from (next_of ring)) t.ring) false) (nat_le spent_from (bitmaps.next_of t.bitmaps)) a.0 in
+      let a = or_parts (unwrap_or (option_map (λ ring. nat_le spent_from (next_of ring)) t.ring) false || nat_le spent_from (bitmaps.next_of t.bitmaps)) (nat_le spent_from (variable.next_of t.blobs)) all in
+      let b = or_parts (unwrap_or (option_map (λ ring. nat_le spent_from (next_of ring)) t.ring) false) (nat_le spent_from (bitmaps.next_of t.bitmaps)) a.0 in
       (by_ring t.ring b.0, let n = leb-false spent_from (bitmaps.next_of t.bitmaps) b.1 in omega (arith, n), let n = leb-false spent_from (variable.next_of t.blobs) a.1 in omega (arith, n))
     where
       by_ring : (o : Option Ring) → unwrap_or (option_map (λ ring. nat_le spent_from (next_of ring)) o) false ≡ false → unwrap_or (option_map (λ ring. next_of ring) o) 0 < spent_from
@@ -215,7 +208,7 @@ module _ {KNOTS SLOTS : ℕ} (t : code.Table KNOTS SLOTS) (key : ℕ) (values : 
   pub few-bytes : (len : ℕ) → blob ≡ Some len → len ≤ 1500
   few-bytes len is =
       let all : (not (is_some t.blobs) || nat_lt (limit_in t) len) ≡ false = not_so _ (Blob (limit_in t)) (ap (blob_refused t) (sym is) ∙ last_two.0) in
-      let n = ltb-false (limit_in t) len (or_false (not (is_some t.blobs)) (nat_lt (limit_in t) len) all).1 in
+      let n = ltb-false (limit_in t) len (or_parts (not (is_some t.blobs)) (nat_lt (limit_in t) len) all).1 in
       omega (arith, n, most (is_some t.blobs))
     where
       most : (b : Bool) → cond b t.blob_limit 0 ≤ 1500

@@ -3,13 +3,13 @@ use Rattle.std.proofs.Common.{◌≡◌, ℕ, ◌+◌, Option, refl, sym, ◌∙
 use Rattle.fl_base.specs.declared.types.RingPlace.{RingPlace}
 use Rattle.fl_find.specs.Index.{error_in}
 use Rattle.fl_flash.specs.Flash.{FlashState, page_at}
-use Rattle.fl_frame.proofs.CallsInTurn.{goes-then}
+use Rattle.fl_frame.proofs.CallsInTurn.{goes-then, few-goes}
 use Rattle.fl_ring.specs.Mounting.{search_reads, shape_at, HasNumbers}
 use Rattle.fl_ring.specs.Repairing.{Beside}
 use Rattle.fl_ring.specs.Ring.{Shape, OutsideStands}
 use Rattle.fl_ring.specs.declared.ring.Ring.{Ring}
 use Rattle.fl_parts.proofs.BlobsOfTable as blobbing
-use Rattle.fl_parts.proofs.IndexOfTable.{few-goes, found-same, none-there}
+use Rattle.fl_parts.proofs.IndexOfTable.{found-same, none-there}
 use Rattle.fl_parts.specs.Bitmaps.{AreRunning, AreSamePlan}
 use Rattle.fl_parts.specs.Blobs as variable
 use Rattle.fl_parts.specs.Coming.{index_pages_of}

@@ -7,10 +7,9 @@ use Rattle.fl_model.specs.Record.{Plan}
 use Rattle.fl_model.specs.Table.{Table, RingName, DataRing, after_seal, after_seals}
 use Rattle.fl_model.specs.Within.{seal_within, seals_within, effect_within, TablePerforms}
 use Rattle.fl_model.specs.Work.{Kind, Device, PartProgress}
-use Rattle.fl_model.proofs.Among.{after_seals-append, seals-all_done}
+use Rattle.fl_model.proofs.Among.{after_seals-append, seals-all_done, within-append}
 use Rattle.fl_model.proofs.Performs.{performs-more, performs-whole}
 use Rattle.fl_parts.specs.Failing.{Breaks, BySeals}
-use Rattle.fl_parts.proofs.InTurn.{within-append}
 use Rattle.fl_table.specs.Outcomes.{Finishes, SealsEnd}
 use Rattle.fl_parts.specs.Pages.{KeptStand}
 use Rattle.fl_table.specs.Standing.{Stands}

@@ -1,5 +1,5 @@
 -- What the seals of a table's rings change of a flash, one after another.
-use Rattle.std.proofs.Common.{◌≡◌, ℕ, ◌+◌, ◌<◌, ◌≤◌, IsTrue, Err, Ok, Result, ◌∙◌, sym, true, Option, Some, None, List, length, inl, inr, ap, subst, arith}
+use Rattle.std.proofs.Common.{◌≡◌, ℕ, ◌+◌, ◌≤◌, IsTrue, Err, Ok, Result, ◌∙◌, sym, true, Option, List, length, inl, inr, ap, subst, arith}
 use Rattle.std.proofs.lemmas.Result.{IfErr-weaker}
 use Rattle.std.proofs.lemmas.Bool.{cases_lt}
 use Rattle.fl_flash.specs.Flash.{FlashState, page_at}
@@ -8,7 +8,7 @@ use Rattle.fl_frame.proofs.CallsInTurn.{goes-then}
 use Rattle.fl_frame.proofs.WatchedInTurn.{cause-later}
 use Rattle.fl_frame.specs.Causes.{CausedBy}
 use Rattle.fl_model.specs.Record.{layout_len}
-use Rattle.fl_ring.specs.Ring.{Shape, room}
+use Rattle.fl_ring.specs.Ring.{room}
 use Rattle.fl_ring.specs.Written.{Writes}
 use Rattle.fl_ring.proofs.Written.{writes-then, writes-wider}
 use Rattle.fl_schema.specs.Schema.{layout_of}
@@ -22,7 +22,6 @@ use Rattle.fl_parts.specs.Calls.{Changes}
 use Rattle.fl_table.specs.Mounting.{rings_in, OutsideStands}
 use Rattle.fl_table.specs.declared.table.Table.{Table}
 use Rattle.fl_parts.proofs.BlobsOfTable.{pages-most}
-use Rattle.fl_var.specs.declared.var_data.VarData.{VarData}
 
 module _ {KNOTS SLOTS : ℕ} (t : Table KNOTS SLOTS) where
   -- a put that seals the page of pending rows, where it is full, ..

@@ -1,6 +1,5 @@
 -- What a mount of a table leaves: by the model, by the pages as they are, in memory, of its buffer and of the flash.
-use Rattle.std.specs.Prelude.{◌≡◌, ℕ, ◌+◌, ◌*◌, ◌≤◌, true, false, None, is_ok, Result, Err, OnOk, IfOk, IfErr, IsTrue, length}
-use Rattle.fl_flash.specs.Buffer.{BufferState}
+use Rattle.std.specs.Prelude.{◌≡◌, ℕ, ◌+◌, ◌*◌, ◌≤◌, true, false, is_ok, Result, Err, OnOk, IfOk, IfErr, IsTrue}
 use Rattle.fl_flash.specs.Flash.{FlashState, Goes, page_at}
 use Rattle.fl_flash.specs.declared.flash.FlashFault.TheVariants.{PowerLost}
 use Rattle.fl_frame.specs.Reads.{FewReads}

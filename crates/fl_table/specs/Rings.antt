@@ -1,6 +1,5 @@
 -- How many pages the rings of a table keep, in memory and in the model.
 use Rattle.std.specs.Prelude.{ℕ, ◌-◌, option_map, length}
-use Rattle.fl_index.specs.Memory as index
 use Rattle.fl_model.specs.Table as model
 use Rattle.fl_parts.specs.Rings.{index_pages, blob_pages}
 use Rattle.fl_table.specs.declared.rings.TableRings.{TableRings}

@@ -2,7 +2,7 @@
 use Rattle.std.proofs.Common.{◌≡◌, ℕ, ◌+◌, ◌-◌, ◌*◌, ◌/◌, ◌<◌, ◌≤◌, min, Bool, true, Option, unwrap_or, ◌⊎◌, inl, inr, false, Result, Ok, Err, List, [], ◌∷◌, ◌++◌, length, take, drop, replicate, append_assoc, refl, sym, ◌∙◌, ap, subst, arith, IsTrue, IsErr}
 use Rattle.std.proofs.Math.Nat.{mul-add-div_right, div-eq_of_lt}
 use Rattle.std.proofs.lemmas.Nat.{le-div}
-use Rattle.std.proofs.lemmas.List.{append-nil, drop-drop, drop_at, length-drop, take_all, take_at, take-append-drop}
+use Rattle.std.proofs.lemmas.List.{append-nil, drop-drop, drop_at, length-drop, take_all, take_at, take-append-drop, drop_all}
 use Rattle.std.specs.Prelude.{option_map, is_some, IfErr, IfSome, IfNone, IsErrOf, Some, None}
 use Rattle.std.specs.Option.{ForSome}
 use Rattle.fl_base.specs.declared.types.Geometry.{Geometry}
@@ -30,7 +30,6 @@ use Rattle.fl_var.specs.Memory.{is_mounted, next_in, oldest_in, oldest_after, wa
 use Rattle.fl_var.specs.Placing.{Seals, Breaks, EndsWith, pages_placed}
 use Rattle.fl_var.specs.Standing.{HasRing}
 use Rattle.fl_var.specs.declared.var_data.VarData.{VarData}
-use Rattle.fl_var.proofs.Lists.{drop-short}
 use Rattle.fl_var.proofs.ByMemory.{plan-then}
 use Rattle.fl_var.proofs.PageImages.{waiting-length}
 use Rattle.fl_var.proofs.SealsInTable.{room-planned, seal-err}
@@ -276,7 +275,7 @@ module _ (first v : VarData) (first_f f : FlashState) (bytes : List ℕ) (done :
   pub writes-waits : waiting_in v ≡ drop (pages_placed first (length bytes) * room_in first) (waiting_in first ++ bytes)
   writes-waits =
       sym (ap (λ k. drop (k * room_in first) (waiting_in first ++ bytes)) writes-pages
-      ∙ (is.left ∙ (ap (λ (l : List ℕ). waiting_in v ++ l) (drop-short done bytes all) ∙ append-nil (waiting_in v))))
+      ∙ (is.left ∙ (ap (λ (l : List ℕ). waiting_in v ++ l) (drop_all done bytes all) ∙ append-nil (waiting_in v))))
 
   pub writes-quiet : pages_placed first (length bytes) ≡ 0 → f ≡ first_f
   writes-quiet none = is.quiet (omega (arith, none, writes-pages, is.later))

@@ -1,10 +1,10 @@
 -- A blob of an entry, where its bytes stand and where it is gone.
-use Rattle.std.proofs.Common.{◌≡◌, ℕ, zero, suc, ◌+◌, ◌-◌, ◌*◌, ◌/◌, ◌%◌, ◌^◌, ◌<◌, ◌≤◌, Bool, true, false, cond, ◌==◌, ◌&&◌, Option, Some, None, unwrap_or, Result, Err, List, [], ◌∷◌, length, take, drop, refl, sym, ◌∙◌, ap, subst, arith, inl, inr, ◌⊎◌, length-take, length-drop}
+use Rattle.std.proofs.Common.{◌≡◌, ℕ, zero, suc, ◌+◌, ◌-◌, ◌*◌, ◌/◌, ◌%◌, ◌^◌, ◌<◌, ◌≤◌, Bool, true, false, cond, ◌==◌, ◌&&◌, Option, Some, None, unwrap_or, Result, Err, List, [], length, take, drop, refl, sym, ◌∙◌, ap, subst, arith, inl, inr, ◌⊎◌, length-take, length-drop}
 use Rattle.std.specs.Prelude.{option_map, nat_le}
 use Rattle.std.specs.List.{slice_get}
 use Rattle.std.proofs.lemmas.Bool.{cases_lt, lt-ltb, le-ltb, le-leb, lt-leb, eq-eqb, ne_eqb, false≢true}
-use Rattle.std.proofs.lemmas.List.{take_all}
-use Rattle.std.proofs.lemmas.Nat.{div-add-mod'}
+use Rattle.std.proofs.lemmas.List.{take_all, nil_from_length}
+use Rattle.std.proofs.lemmas.Nat.{div-add-mod', mod_below}
 use Rattle.fl_base.specs.declared.types.BlobRef.{BlobRef}
 use Rattle.fl_flash.specs.Flash.{FlashState, page_at}
 use Rattle.fl_mark.specs.Mark.{state_of_page}
@@ -35,12 +35,7 @@ use Rattle.fl_var.specs.Standing.{Stands}
 use Rattle.fl_var.specs.declared.reader.BlobReader.{BlobReader}
 use Rattle.fl_var.specs.declared.var_data.VarData.{VarData}
 use Rattle.fl_var.proofs.PageImages.{image-other, image-next, page-count, page-content, page-has, filled-length, waiting-room}
-use Rattle.fl_var.proofs.Stored.{contents-at, same-front, content-size, place-within, place-last, place-lt}
-
--- a list without elements
-nothing : (xs : List ℕ) → length xs ≡ 0 → xs ≡ []
-nothing [] e = refl
-nothing (x ∷ xs) e = absurd (omega (arith, e))
+use Rattle.fl_var.proofs.Stored.{contents-at, same-front, content-size, place-within, place-last}
 
 -- what is told of an entry's blob
 module _ (table : model.Table) (ring : Ring) (entry : Entry) (bytes : List ℕ) (ring_is : table.var ≡ Some ring) (blob_is : entry.kept.blob ≡ Some bytes) where
@@ -61,11 +56,11 @@ module _ (table : model.Table) (ring : Ring) (entry : Entry) (bytes : List ℕ) 
   blob-stands some k = blob-told false true (ne_eqb (length bytes) 0 (λ e. omega (arith, e, some))) k
 
   pub blob-empty : length bytes ≡ 0 → blob_of table entry ≡ StandsWith bytes
-  blob-empty none = blob-told true (page_stands ring entry.page) (eq-eqb (length bytes) 0 none) refl ∙ ap StandsWith (sym (nothing bytes none))
+  blob-empty none = blob-told true (page_stands ring entry.page) (eq-eqb (length bytes) 0 none) refl ∙ ap StandsWith (sym (nil_from_length bytes none))
 
   -- an empty blob was opened
   pub found-empty : length bytes ≡ 0 → (left : List ℕ) → (blob_of table entry ≡ StandsWith bytes) × (take 0 left ≡ bytes)
-  found-empty none left = (blob-empty none, take_none left ∙ sym (nothing bytes none))
+  found-empty none left = (blob-empty none, take_none left ∙ sym (nil_from_length bytes none))
 
 module _ (v : VarData) (f : FlashState) (plan : Plan) (table : model.Table) (stands : Stands v f plan table) (sizes : (n : ℕ) → length (page_at f (place (var_shape v) n)) ≡ v.geometry.page) where
   abbrev ring : Ring
@@ -295,14 +290,8 @@ module _ (v : VarData) (f : FlashState) (plan : Plan) (table : model.Table) (sta
     C = contents_from (image_in v f) entry.page (next_in v + 1 - entry.page)
 
     bytes-here : take (length bytes) (drop entry.offset (contents_from (image_in v f) entry.page (next_in v + 1 - entry.page))) ≡ bytes
-    bytes-here = same-front (take (length bytes) (drop entry.offset C)) bytes (short_take (length bytes) (drop entry.offset C)) each
+    bytes-here = same-front (take (length bytes) (drop entry.offset C)) bytes (omega (arith, length-take (length bytes) (drop entry.offset C))) each
       where
-        short_take : (n : ℕ) (xs : List ℕ) → length (take n xs) ≤ n
-        short_take zero [] = omega arith
-        short_take zero (x ∷ xs) = omega arith
-        short_take (suc n) [] = omega arith
-        short_take (suc n) (x ∷ xs) = let k = short_take n xs in omega (arith, k)
-
         each : (j b : ℕ) → slice_get bytes j ≡ Some b → slice_get (take (length bytes) (drop entry.offset (contents_from (image_in v f) entry.page (next_in v + 1 - entry.page)))) j ≡ Some b
         each j b e =
             let lt = slice_get-short bytes j b e in
@@ -319,7 +308,7 @@ module _ (v : VarData) (f : FlashState) (plan : Plan) (table : model.Table) (sta
           where
             by_page : ((entry.offset + j) / content_per_page plan < last) ⊎ (last ≤ (entry.offset + j) / content_per_page plan) → (entry.offset + j) / content_per_page plan ≤ last → j < length bytes →
                 (entry.offset + j) % content_per_page plan < (holds.pages ((entry.offset + j) / content_per_page plan)).used
-            by_page (inl less) le lt = omega (arith, holds.full ((entry.offset + j) / content_per_page plan) less, place-lt (entry.offset + j) (content_per_page plan) wide)
+            by_page (inl less) le lt = omega (arith, holds.full ((entry.offset + j) / content_per_page plan) less, mod_below (entry.offset + j) (content_per_page plan) wide)
             by_page (inr ge) le lt =
                 let same : (entry.offset + j) / content_per_page plan ≡ (entry.offset + length bytes - 1) / content_per_page plan = omega (arith, ge, le) in
                 let used = ap (λ n. (holds.pages n).used) same in

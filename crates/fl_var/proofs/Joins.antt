@@ -1,5 +1,5 @@
 -- Seals of the buffer, one after another.
-use Rattle.std.proofs.Common.{◌≡◌, ℕ, zero, suc, ◌+◌, ◌*◌, Bool, Option, unwrap_or, List, [], ◌∷◌, ◌++◌, drop, replicate, refl, sym, ◌∙◌, ap, subst, arith, append_assoc}
+use Rattle.std.proofs.Common.{◌≡◌, ℕ, zero, suc, ◌+◌, ◌*◌, Bool, Option, unwrap_or, List, [], ◌∷◌, ◌++◌, drop, replicate, refl, sym, ◌∙◌, ap, subst, arith}
 use Rattle.std.specs.Prelude.{option_map, is_some}
 use Rattle.std.proofs.lemmas.List.{drop-drop}
 use Rattle.std.proofs.lemmas.Option.{same_Some}
@@ -10,8 +10,8 @@ use Rattle.fl_model.specs.Layout.{ContentPage}
 use Rattle.fl_model.specs.Ring.{Ring}
 use Rattle.fl_model.specs.Table.{Table, RingName, VarRing, after_seal, after_seals, with_record}
 use Rattle.fl_model.specs.Work.{Kind, Device, PartEnd, Whole, CutIn, FailedIn, PartProgress}
-use Rattle.fl_model.specs.Within.{seal_within, seals_within, effect_within, TablePerforms}
-use Rattle.fl_model.proofs.Among.{seals-all_done, after_seals-append}
+use Rattle.fl_model.specs.Within.{seals_within, effect_within, TablePerforms}
+use Rattle.fl_model.proofs.Among.{seals-all_done, after_seals-append, within-append}
 use Rattle.fl_model.proofs.Performs.{performs-whole, performs-more, performs-front}
 use Rattle.fl_ring.specs.Kept.{PagesStand}
 use Rattle.fl_ring.specs.Place as place_words
@@ -27,13 +27,6 @@ use Rattle.fl_model.proofs.Lists.{drop_none}
 use Rattle.fl_var.specs.Placing.{Seals, Breaks, FaultEnds}
 use Rattle.fl_var.specs.Standing.{IsVarRing, HasRing}
 use Rattle.fl_var.specs.declared.var_data.VarData.{VarData}
-
--- the operations of joined seals
-pub seals-append : (plan : Plan) (xs ys : List RingName) (table : Table) → seals_within plan (xs ++ ys) table ≡ seals_within plan xs table ++ seals_within plan ys (after_seals plan xs table)
-seals-append plan [] ys table = refl
-seals-append plan (x ∷ xs) ys table =
-    ap (λ l. seal_within plan x table ++ l) (seals-append plan xs ys (after_seal plan x table))
-    ∙ sym (append_assoc (seal_within plan x table) (seals_within plan xs (after_seal plan x table)) (seals_within plan ys (after_seals plan xs (after_seal plan x table))))
 
 pub stands-same : (ring : Ring) (at : ℕ → List ℕ) → PagesStand ring at ring at
 stands-same ring at = record { later = omega arith; further = omega arith; bytes = λ n low high. refl }
@@ -112,7 +105,7 @@ module _ (plan : Plan) (xs ys : List RingName) (table : Table) (rose : Bool) (de
 
   more : (now : PartProgress Table) → TablePerforms plan rose (seals_within plan ys (after_seals plan xs table)) a.now.device (after_seals plan xs table) now → TablePerforms plan rose (seals_within plan (xs ++ ys) table) device table now
   more now did =
-      subst (λ (ops : List (RingName × Kind)). TablePerforms plan rose ops device table now) (sym (seals-append plan xs ys table))
+      subst (λ (ops : List (RingName × Kind)). TablePerforms plan rose ops device table now) (sym (within-append plan xs ys table))
       (performs-more (λ operation. operation.1) (effect_within plan) rose (seals_within plan xs table) (seals_within plan ys (after_seals plan xs table)) device table a.now now a.did a.whole
       (subst (λ (t : Table). TablePerforms plan rose (seals_within plan ys (after_seals plan xs table)) a.now.device t now) (sym state-is) did))
 
@@ -154,7 +147,7 @@ module _ (plan : Plan) (xs ys : List RingName) (table : Table) (rose : Bool) (de
 pub breaks-front : (plan : Plan) (xs zs : List RingName) (table : Table) (rose : Bool) (device : Device) (fault : FlashFault) (old : VarData) (g : FlashState) → Breaks plan xs table rose device fault old g → Breaks plan (xs ++ zs) table rose device fault old g
 breaks-front plan xs zs table rose device fault old g b = record {
   now = b.now;
-  did = subst (λ (ops : List (RingName × Kind)). TablePerforms plan rose ops device table b.now) (sym (seals-append plan xs zs table))
+  did = subst (λ (ops : List (RingName × Kind)). TablePerforms plan rose ops device table b.now) (sym (within-append plan xs zs table))
       (performs-front (λ operation. operation.1) (effect_within plan) rose (seals_within plan xs table) (seals_within plan zs (after_seals plan xs table)) device table b.now b.did (broken b.now.end b.answer));
   answer = b.answer;
   counts = b.counts;

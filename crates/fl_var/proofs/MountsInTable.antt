@@ -1,35 +1,36 @@
 -- The mount of the ring, in the words of its table.
-use Rattle.std.proofs.Common.{◌≡◌, inl, inr, ℕ, ◌+◌, ◌-◌, ◌*◌, ◌<◌, ◌≤◌, Bool, true, false, cond, Option, Some, None, unwrap_or, Result, Ok, Err, List, [], ◌∷◌, ◌++◌, map, length, take, drop, get_or, refl, sym, ◌∙◌, ap, subst, arith, IsTrue}
-use Rattle.std.specs.Prelude.{option_map, is_some, IfSome}
-use Rattle.std.specs.List.{list_any}
+use Rattle.std.proofs.Common.{◌≡◌, inl, inr, ℕ, ◌+◌, ◌-◌, ◌*◌, ◌<◌, ◌≤◌, Bool, true, false, cond, Option, Some, Result, Ok, Err, List, [], ◌∷◌, ◌++◌, map, length, refl, sym, ◌∙◌, ap, subst, arith, IsTrue, length-append}
+use Rattle.std.specs.Prelude.{option_map, is_some}
+use Rattle.std.proofs.lemmas.List.{map-append}
 use Rattle.fl_base.specs.declared.types.Geometry.{Geometry}
 use Rattle.fl_flash.specs.Flash.{FlashState, page_at}
 use Rattle.fl_flash.specs.declared.flash.FlashFault.{FlashFault}
-use Rattle.fl_flash.specs.declared.flash.FlashFault.TheVariants.{PowerLost, Media}
+use Rattle.fl_flash.specs.declared.flash.FlashFault.TheVariants.{Media}
 use Rattle.fl_model.specs.Layout.{le, ContentPage, content_body}
-use Rattle.fl_model.specs.Row.{number_of as model_number}
 use Rattle.fl_model.specs.Mount as numbering
 use Rattle.fl_model.specs.Mount.{renumber, blob_end, least_alike}
 use Rattle.fl_model.specs.MountLimit.{ring_mount_limit, part_mount_limit}
 use Rattle.fl_model.specs.Record.{Plan}
 use Rattle.fl_model.specs.Ring as model
 use Rattle.fl_model.specs.Table.{Table, RingName, VarRing, shape_of, seal_page, is_dirty, is_torn}
-use Rattle.fl_model.specs.Work.{Kind, VoidMark, Erase, Device, PartEnd, Whole, CutIn, FailedIn}
+use Rattle.fl_model.specs.Work.{Kind, VoidMark, Erase, Device}
 use Rattle.fl_model.specs.Within.{repair_within, TablePerforms, effect_within, all_done}
 use Rattle.fl_model.proofs.Performs.{performs-whole}
-use Rattle.fl_model.proofs.Lists.{drop_none}
 use Rattle.fl_ring.specs.Head.{one}
 use Rattle.fl_ring.specs.Mounting.{shape_at, IsGood, Mounted, RepairEnds}
 use Rattle.fl_ring.specs.Mounting as ring_mounting
 use Rattle.fl_ring.specs.Newest.{number_of}
 use Rattle.fl_ring.specs.Numbers.{renumbered, voids_at_end}
-use Rattle.fl_ring.specs.Operations.{change, repair_kinds}
-use Rattle.fl_ring.specs.Ring.{Shape, RingState, IsShape, OnRing, room, place, count, oldest, voided}
-use Rattle.fl_ring.specs.Sealing.{AnswersEnd}
+use Rattle.fl_ring.specs.Operations.{repair_kinds}
+use Rattle.fl_ring.specs.Ring.{Shape, RingState, OnRing, place, voided}
 use Rattle.fl_ring.specs.declared.fault.RingFault.{RingFault}
 use Rattle.fl_ring.specs.declared.fault.RingFault.TheVariants as ring_fault
 use Rattle.fl_ring.specs.declared.ring.Ring as memory
-use Rattle.fl_ring.proofs.Counts.{counts_length, counts_renumbered, counts_voided}
+use Rattle.fl_ring.proofs.Bodies.{bodies-numbered, renumbered-bodies}
+use Rattle.fl_ring.proofs.Counts.{counts_length, counts_renumbered}
+use Rattle.fl_ring.proofs.HeldPages.{IsStateOf}
+use Rattle.fl_ring.proofs.InTable.{of_ring, erases-where, counted-repairs, performed-lifts, all-whole}
+use Rattle.fl_ring.proofs.Mounts.{repair_end, mount_fault}
 use Rattle.fl_ring.proofs.VoidsAtEnd.{voids_are}
 use Rattle.fl_ring.proofs.SamePlaces.{renumbered_on, renumbered_same}
 use Rattle.fl_schema.proofs.Numbers.{number_of-le}
@@ -39,44 +40,15 @@ use Rattle.fl_var.specs.Memory.{waiting_in, page_in, var_shape, IsSamePlan}
 use Rattle.fl_var.specs.Mounting.{Rests, MountEnds}
 use Rattle.fl_var.specs.Standing.{IsVarRing}
 use Rattle.fl_var.specs.declared.var_data.VarData.{VarData}
-use Rattle.fl_var.proofs.Bodies.{counted, once, HoldBodies, bodies-at, bodies-anew, kept-torn}
-use Rattle.fl_var.proofs.RingInTable.{of_var, AreErases, HasCome, IsRingOf, come-front, come-small, performed-lifts, fault-ends, all-whole}
+use Rattle.fl_var.proofs.Bodies.{counted, once, IsBody, some-once}
+use Rattle.fl_var.proofs.RingInTable.{HasCome, IsRingOf, come-front, come-small, step-along, fault-ends}
 use Rattle.fl_var.proofs.SealsInTable.{shape-is, shape-here, next-is, oldest-is}
-use Rattle.fl_var.proofs.States.{all-once, state_of, IsStateOf, state-is, var-ring-of}
+use Rattle.fl_var.proofs.States.{all-once, state_of, state-is, var-ring-of}
 
 -- a body begins with its number
-body-number : (n : ℕ) (p : ContentPage) (body : List ℕ) → body ≡ content_body n p → n < 4294967296 → number_of body ≡ n
-body-number n p body is small =
-    let four : take 4 body ≡ le 4 n = ap (take 4) is in
-    let long : 4 ≤ length body = omega (arith, ap length is) in
-    field_4 body 0 0 0 4 refl refl long
-    ∙ (ap (λ (l : List ℕ). model_number (take 4 l)) (drop_none (drop 0 body) ∙ drop_none body) ∙ (ap model_number four ∙ number_of-le 4 n small))
-
--- the same bodies have other numbers only where there are none
-renumbered-bodies : (plan : Plan) (r : Shape) (at_least : ℕ) (s : RingState) (pages : List ContentPage) → HoldBodies plan (oldest s) s.kept pages →
-    HoldBodies plan (oldest (renumbered r at_least s)) (renumbered r at_least s).kept pages
-renumbered-bodies plan r at_least s pages h = by_any (list_any is_some s.kept) refl
-  where
-    by_any : (b : Bool) → list_any is_some s.kept ≡ b → HoldBodies plan (oldest (cond b s (record s { next = least_alike (room r) s.next (at_least + length s.kept) })))
-        (cond b s (record s { next = least_alike (room r) s.next (at_least + length s.kept) })).kept pages
-    by_any true e = h
-    by_any false e = bodies-anew plan (oldest s) _ s.kept pages e h
-
--- what all repairs leave
-pub record IsClean (left : RingState) : Type 0 where
-  pub whole : left.torn ≡ false
-  pub clean : left.dirty ≡ false
-
-pub repairs-clean : (r : Shape) (s : RingState) → IsShape r → count s ≤ s.next → IsClean (all_done (change r []) (repair_kinds r s) s)
-repairs-clean r s shape known = by_torn s.torn refl
-  where
-    by_dirty : (t : RingState) (d : Bool) → t.dirty ≡ d → t.torn ≡ false → IsClean (all_done (change r []) (cond d (Erase ∷ []) []) t)
-    by_dirty t true e whole = record { whole = whole; clean = refl }
-    by_dirty t false e whole = record { whole = whole; clean = e }
-
-    by_torn : (b : Bool) → s.torn ≡ b → IsClean (all_done (change r []) ((cond b (VoidMark ∷ []) []) ++ (cond (cond b (voided r s) s).dirty (Erase ∷ []) [])) s)
-    by_torn true e = by_dirty (voided r s) (voided r s).dirty refl (kept-torn r s None shape known)
-    by_torn false e = by_dirty s s.dirty refl e
+pub body-number : (plan : Plan) (n : ℕ) (body : List ℕ) (p : ContentPage) → IsBody plan n body p → n < 4294967296 → number_of body ≡ n
+body-number plan n body p is small =
+    ap number_of is.0 ∙ (field_4 (content_body n p) 0 0 0 4 refl refl (omega (arith, length-append (le 4 n ++ le 2 p.used ++ le 2 0) p.bytes)) ∙ number_of-le 4 n small)
 
 -- repairs leave the bytes that wait
 repairs-waits : (plan : Plan) (table : Table) → (all_done (effect_within plan) (repair_within plan VarRing table) table).buffered ≡ table.buffered
@@ -118,7 +90,7 @@ module _ (v : VarData) (f g : FlashState) (plan : Plan) (table : Table) (at_leas
   abbrev table_now : Table
   table_now = renumber plan VarRing table
 
-  is : IsStateOf (var_shape v) plan (page_at f) sizes (shape-is v) (shape-here v plan rests.planned) rests.ring table.var_pages (state_of rests.ring table.var_pages)
+  is : IsStateOf (IsBody plan) once (var_shape v) (page_at f) rests.ring table.var_pages (state_of rests.ring table.var_pages)
   is = state-is (var_shape v) plan (page_at f) sizes (shape-is v) (shape-here v plan rests.planned) rests.ring table.var_pages rests.pages
 
   on_now : OnRing (var_shape v) (page_at f) numbered
@@ -144,70 +116,35 @@ module _ (v : VarData) (f g : FlashState) (plan : Plan) (table : Table) (at_leas
   good told = record {
     told = told;
     on = is.on;
-    numbered = λ i lt. by_page i lt (get_or s.kept i None) refl;
+    numbered = bodies-numbered (IsBody plan) once (some-once plan) (body-number plan) s table.var_pages is.bodies is.on.ring.not_negative (let k = rests.pages.number in omega (arith, k));
     fits = let torn = renumbered_same (var_shape v) s at_least in subst (λ b. numbered.next + one b < 4294967296) torn small;
   }
-    where
-      by_page : (i : ℕ) → i < count (state_of rests.ring table.var_pages) → (x : Option (List ℕ)) → get_or (state_of rests.ring table.var_pages).kept i None ≡ x →
-          IfSome (get_or (state_of rests.ring table.var_pages).kept i None) (λ body. number_of body ≡ oldest (state_of rests.ring table.var_pages) + i)
-      by_page i lt None e = rw e tt
-      by_page i lt (Some body) e =
-          let held = bodies-at plan (oldest s) s.kept table.var_pages i body is.bodies e in
-          let number = body-number (oldest s + i) held.page body held.body_is (omega (arith, lt, is.on.ring.not_negative, rests.pages.number)) in
-          subst (λ (x : Option (List ℕ)). IfSome x (λ body. number_of body ≡ oldest (state_of rests.ring table.var_pages) + i)) (sym e) number
 
   come : HasCome plan [] (repair_kinds (var_shape v) numbered) numbered table_now.buffered
   come = by_torn numbered.torn refl
     where
-      erases : (b : Bool) → AreErases (cond b (Erase ∷ []) [])
-      erases true = tt
-      erases false = tt
-
       by_dirty : (b : Bool) → numbered.next < 4294967296 → HasCome plan [] (cond b (Erase ∷ []) []) numbered table_now.buffered
       by_dirty true k = (k, tt)
       by_dirty false k = k
 
       by_torn : (b : Bool) → numbered.torn ≡ b → HasCome plan [] ((cond b (VoidMark ∷ []) []) ++ (cond (cond b (voided (var_shape v) numbered) numbered).dirty (Erase ∷ []) [])) numbered table_now.buffered
-      by_torn true e = let k = subst (λ b. numbered.next + one b < 4294967296) e small in (k, erases (voided r numbered).dirty)
+      by_torn true e = let k = subst (λ b. numbered.next + one b < 4294967296) e small in (k, erases-where (voided r numbered).dirty)
       by_torn false e = let k = subst (λ b. numbered.next + one b < 4294967296) e small in by_dirty numbered.dirty (omega (arith, k))
 
   begins : (kinds : List Kind) → HasCome plan [] kinds numbered table_now.buffered → IsRingOf plan [] kinds numbered (renumber plan VarRing table)
-  begins kinds h = record { var_is = var_now; bodies = renumbered-bodies plan r at_least s table.var_pages is.bodies; known = on_now.ring.not_negative; come = h }
+  begins kinds h = record { var_is = var_now; bodies = renumbered-bodies (IsBody plan) r at_least s table.var_pages is.bodies; known = on_now.ring.not_negative; come = h }
 
-  kinds-are : map of_var (repair_kinds (var_shape v) numbered) ≡ repair_within plan VarRing (renumber plan VarRing table)
-  kinds-are = by_torn numbered.torn refl ∙ ap (λ (b : Bool). (cond b ((VarRing, VoidMark) ∷ []) []) ++ (cond (is_dirty VarRing (cond b (seal_page plan VarRing 0 table_now) table_now)) ((VarRing, Erase) ∷ []) [])) torn_is
-    where
-      torn_is : numbered.torn ≡ is_torn VarRing (renumber plan VarRing table)
-      torn_is = ap (λ (o : Option model.Ring). unwrap_or (option_map (λ (x : model.Ring). x.torn) o) false) (sym var_now)
-
-      dirty_is : numbered.dirty ≡ is_dirty VarRing (renumber plan VarRing table)
-      dirty_is = ap (λ (o : Option model.Ring). unwrap_or (option_map (λ (x : model.Ring). x.dirty) o) false) (sym var_now)
-
-      voided_is : (voided (var_shape v) numbered).dirty ≡ is_dirty VarRing (seal_page plan VarRing 0 (renumber plan VarRing table))
-      voided_is =
-          let ring_is : (seal_page plan VarRing 0 (renumber plan VarRing table)).var ≡ Some (counted (voided (var_shape v) numbered)) =
-          ap (option_map (model.sealed (shape_of plan VarRing) 0)) var_now
-          ∙ ap (λ (x : model.Ring). Some x) (ap (λ (m : model.Shape). model.sealed m 0 (counted numbered)) (sym (shape-here v plan rests.planned)) ∙ sym (counts_voided once (var_shape v) numbered)) in
-          ap (λ (o : Option model.Ring). unwrap_or (option_map (λ (x : model.Ring). x.dirty) o) false) (sym ring_is)
-
-      by_dirty : (b : Bool) → map of_var (cond b (Erase ∷ []) []) ≡ cond b ((VarRing, Erase) ∷ []) []
-      by_dirty true = refl
-      by_dirty false = refl
-
-      by_torn : (b : Bool) → numbered.torn ≡ b → map of_var ((cond b (VoidMark ∷ []) []) ++ (cond (cond b (voided (var_shape v) numbered) numbered).dirty (Erase ∷ []) []))
-          ≡ (cond b ((VarRing, VoidMark) ∷ []) []) ++ (cond (is_dirty VarRing (cond b (seal_page plan VarRing 0 (renumber plan VarRing table)) (renumber plan VarRing table))) ((VarRing, Erase) ∷ []) [])
-      by_torn true e = ap (λ l. (VarRing, VoidMark) ∷ l) (by_dirty (voided r numbered).dirty ∙ ap (λ (b : Bool). cond b ((VarRing, Erase) ∷ []) []) voided_is)
-      by_torn false e = by_dirty numbered.dirty ∙ ap (λ (b : Bool). cond b ((VarRing, Erase) ∷ []) []) dirty_is
+  kinds-are : map (of_ring VarRing) (repair_kinds (var_shape v) numbered) ≡ repair_within plan VarRing (renumber plan VarRing table)
+  kinds-are = counted-repairs VarRing plan table_now once r numbered (shape-here v plan rests.planned) var_now
 
   -- all repairs were done
   pub mount-well : (rose : Bool) (device : Device) (w : VarData) (ring : memory.Ring) → Mounted (var_shape v) rose device numbered ring g → w.ring ≡ Some ring → IsSamePlan v w → page_in w g ≡ page_in v g → waiting_in w ≡ [] → MountEnds plan table rose device v (Ok tt) w g
   mount-well rose device w ring m ring_is same page_is empty =
       let kinds = repair_kinds r numbered in
-      let l = performed-lifts (var_shape v) plan [] (shape-is v) (shape-here v plan rests.planned) rose kinds device numbered table_now (Ok tt) g (begins (repair_kinds r numbered) come) m.performed in
-      let all = all-whole (var_shape v) plan [] (shape-is v) (shape-here v plan rests.planned) l.now.end tt g l.answer in
+      let l = performed-lifts (IsRingOf plan []) r plan VarRing [] (step-along r plan [] (shape-is v) (shape-here v plan rests.planned)) rose kinds device numbered table_now (Ok tt) g (begins (repair_kinds r numbered) come) m.performed in
+      let all = all-whole l.now.end tt g l.answer in
       let did : TablePerforms plan rose (repair_within plan VarRing table_now) device table_now l.now = subst (λ (ops : List (RingName × Kind)). TablePerforms plan rose ops device table_now l.now) kinds-are l.did in
-      let clean : IsClean m.performed.now.state = subst IsClean (sym (performs-whole (λ kind. kind) (change (var_shape v) []) rose (repair_kinds r numbered) device numbered m.performed.now m.performed.did (answers m.performed.now.end m.performed.answer)).0)
-      (repairs-clean (var_shape v) numbered (shape-is v) on_now.ring.not_negative) in
+      let clean = repair_end (var_shape v) numbered rose device tt g m.performed in
       record {
         now = l.now;
         did = did;
@@ -223,8 +160,8 @@ module _ (v : VarData) (f g : FlashState) (plan : Plan) (table : Table) (at_leas
             pages = subst (λ (pg : ℕ → List ℕ). IsVarRing plan l.now.state.var_pages (counted m.performed.now.state) pg) (sym page_is)
                 (var-ring-of (var_shape v) plan (page_at g) later_sizes (shape-is v) (shape-here v plan rests.planned) m.performed.now.state l.now.state.var_pages m.performed.on l.is.bodies
                 (come-small plan [] l.kinds m.performed.now.state l.now.state.buffered l.is.come));
-            whole = clean.whole;
-            clean = clean.clean;
+            whole = clean.0;
+            clean = clean.1;
             next = next-is w ring ring_is ∙ m.stands.next;
             oldest_is = oldest-is w ring ring_is ∙ (m.stands.oldest ∙ ap (λ n. m.performed.now.state.next - n) (sym (counts_length once m.performed.now.state)));
           };
@@ -232,25 +169,14 @@ module _ (v : VarData) (f g : FlashState) (plan : Plan) (table : Table) (at_leas
               ∙ (repairs-waits plan table_now ∙ (rests.empty ∙ sym empty));
         };
       }
-    where
-      answers : (e : PartEnd RingState) → AnswersEnd e (Ok tt) g → e ≡ Whole
-      answers Whole a = refl
-      answers (CutIn b) a = absurd (not_err PowerLost a.0)
-        where
-          not_err : (fault : FlashFault) → ◌≡◌ {A = Result (Unit {0}) FlashFault} (Ok tt) (Err fault) → ⊥
-          not_err fault e = cc
-      answers (FailedIn b) a = absurd (not_err Media a.0)
-        where
-          not_err : (fault : FlashFault) → ◌≡◌ {A = Result (Unit {0}) FlashFault} (Ok tt) (Err fault) → ⊥
-          not_err fault e = cc
 
   -- a repair failed, or a read
   pub mount-badly : (rose : Bool) (device : Device) (fault : FlashFault) (w : VarData) → RepairEnds (var_shape v) rose (repair_kinds (var_shape v) numbered) device numbered (Err fault) g → MountEnds plan table rose device v (Err (ring_fault.Flash fault)) w g
   mount-badly rose device fault w (inl p) =
-      let l = performed-lifts (var_shape v) plan [] (shape-is v) (shape-here v plan rests.planned) rose (repair_kinds r numbered) device numbered table_now (Err fault) g (begins (repair_kinds r numbered) come) p in
+      let l = performed-lifts (IsRingOf plan []) r plan VarRing [] (step-along r plan [] (shape-is v) (shape-here v plan rests.planned)) rose (repair_kinds r numbered) device numbered table_now (Err fault) g (begins (repair_kinds r numbered) come) p in
       record {
         now = l.now;
-        did = inl (subst (λ (ops : List (RingName × Kind)). TablePerforms plan rose ops device table_now l.now) kinds-are l.did, fault-ends (var_shape v) plan [] (shape-is v) (shape-here v plan rests.planned) l.now.end fault g l.answer);
+        did = inl (subst (λ (ops : List (RingName × Kind)). TablePerforms plan rose ops device table_now l.now) kinds-are l.did, fault-ends l.now.end fault g l.answer);
         counts = l.counts;
         ring = counted p.now.state;
         ring_is = l.is.var_is;
@@ -258,17 +184,17 @@ module _ (v : VarData) (f g : FlashState) (plan : Plan) (table : Table) (at_leas
             (come-small plan [] l.kinds p.now.state l.now.state.buffered l.is.come);
       }
   mount-badly rose device fault w (inr u) =
-      let l = performed-lifts (var_shape v) plan [] (shape-is v) (shape-here v plan rests.planned) rose u.front device numbered table_now (Ok tt) g
+      let l = performed-lifts (IsRingOf plan []) r plan VarRing [] (step-along r plan [] (shape-is v) (shape-here v plan rests.planned)) rose u.front device numbered table_now (Ok tt) g
       (begins u.front (come-front plan [] u.front u.others numbered table_now.buffered (subst (λ (kinds : List Kind). HasCome plan [] kinds numbered table_now.buffered) u.split come))) u.did in
-      let all = all-whole (var_shape v) plan [] (shape-is v) (shape-here v plan rests.planned) l.now.end tt g l.answer in
+      let all = all-whole l.now.end tt g l.answer in
       record {
         now = l.now;
         did = inr (
           record {
             may_fail = u.risen;
-            front = map of_var u.front;
-            others = map of_var u.others;
-            split = sym kinds-are ∙ (ap (map of_var) u.split ∙ map-append u.front u.others);
+            front = map (of_ring VarRing) u.front;
+            others = map (of_ring VarRing) u.others;
+            split = sym kinds-are ∙ (ap (map (of_ring VarRing)) u.split ∙ map-append (of_ring VarRing) u.front u.others);
             did = l.did;
             whole = all.0;
           },
@@ -284,19 +210,9 @@ module _ (v : VarData) (f g : FlashState) (plan : Plan) (table : Table) (at_leas
       is_media : ◌≡◌ {A = Result (Unit {0}) FlashFault} (Err fault) (Err Media) → fault ≡ Media
       is_media e = cc
 
-      map-append : (xs ys : List Kind) → map of_var (xs ++ ys) ≡ map of_var xs ++ map of_var ys
-      map-append [] ys = refl
-      map-append (x ∷ xs) ys = ap (λ zs. of_var x ∷ zs) (map-append xs ys)
-
 -- how the mount of the ring ended
-pub mount-fault : (plan : Plan) (table : Table) (rose : Bool) (device : Device) (v : VarData) (w : VarData) (g : FlashState) (x : Shape) (t : RingState) (e : RingFault) → ring_mounting.MountEnds x rose device t (Err e) g →
-    ((fault : FlashFault) → RepairEnds x rose (repair_kinds x t) device t (Err fault) g → MountEnds plan table rose device v (Err (ring_fault.Flash fault)) w g) → MountEnds plan table rose device v (Err e) w g
-mount-fault plan table rose device v w g x t (ring_fault.Flash e) h go = go e h
-mount-fault plan table rose device v w g x t (ring_fault.BadHead heads) h go = absurd h
-mount-fault plan table rose device v w g x t (ring_fault.BadGap page) h go = absurd h
-mount-fault plan table rose device v w g x t (ring_fault.BadPage page wanted found) h go = absurd h
-mount-fault plan table rose device v w g x t (ring_fault.NoNumber least) h go = absurd h
-
-pub mount-err : (plan : Plan) (table : Table) (rose : Bool) (device : Device) (v : VarData) (w : VarData) (g : FlashState) (result : Result (Unit {0}) RingFault) (e : RingFault) → result ≡ Err e →
-    MountEnds plan table rose device v (Err e) w g → MountEnds plan table rose device v result w g
-mount-err plan table rose device v w g result e is h = subst (λ (x : Result (Unit {0}) RingFault). MountEnds plan table rose device v x w g) (sym is) h
+pub mount-fault : (plan : Plan) (table : Table) (rose : Bool) (device : Device) (v w : VarData) (g : FlashState) (r : Shape) (t : RingState) (result : Result (Unit {0}) RingFault) (e : RingFault) → result ≡ Err e →
+    ring_mounting.MountEnds r rose device t (Err e) g → ((fault : FlashFault) → RepairEnds r rose (repair_kinds r t) device t (Err fault) g → MountEnds plan table rose device v (Err (ring_fault.Flash fault)) w g) →
+    MountEnds plan table rose device v result w g
+mount-fault plan table rose device v w g r t result e is h go =
+    subst (λ (x : Result (Unit {0}) RingFault). MountEnds plan table rose device v x w g) (sym is) (mount_fault (λ (x : RingFault). MountEnds plan table rose device v (Err x) w g) r rose device t g e h go)

@@ -1,9 +1,9 @@
 -- What a look at a page of variable data leaves, and what it tells: of the page in memory, and of one that was read.
-use Rattle.std.proofs.Common.{◌≡◌, ℕ, ◌+◌, ◌*◌, ◌^◌, ◌<◌, ◌≤◌, Bool, cond, Some, List, length, drop, inl, inr, sym, ◌∙◌, ap, subst, arith}
+use Rattle.std.proofs.Common.{◌≡◌, ℕ, ◌+◌, ◌<◌, ◌≤◌, Bool, cond, Some, List, length, drop, inl, inr, sym, ◌∙◌, ap, subst, arith, pos_of_ne-zero}
 use Rattle.std.proofs.lemmas.Bool.{cases_lt, eq-eqb, ne_eqb}
 use Rattle.std.proofs.lemmas.List.{length-drop}
-use Rattle.fl_base.specs.declared.types.Geometry.{Geometry}
-use Rattle.fl_flash.specs.Flash.{FlashState, Goes, pages, page_at}
+use Rattle.fl_flash.specs.Flash.{FlashState, Goes, page_at}
+use Rattle.fl_frame.proofs.CallsInTurn.{few-goes}
 use Rattle.fl_page.specs.Header.{page_count}
 use Rattle.fl_ring.specs.Place.{shape_of}
 use Rattle.fl_ring.specs.Ring.{Shape, place}
@@ -12,7 +12,6 @@ use Rattle.fl_ring.proofs.Exists.{lies_still}
 use Rattle.fl_var.specs.Content.{HasContent}
 use Rattle.fl_var.specs.Memory.{next_in, waiting_in, room_in, page_in, image_in, present, LiesOn}
 use Rattle.fl_var.specs.declared.var_data.VarData.{VarData}
-use Rattle.fl_var.proofs.Lists.{not-none}
 use Rattle.fl_var.proofs.PageImages.{image-other, waiting-room}
 
 -- what is read lies where it lay
@@ -20,12 +19,9 @@ pub lies-later : (v : VarData) (f h : FlashState) → LiesOn v f → Goes f h �
 lies-later v f h lies goes = record {
   geometry = goes.geometry ∙ lies.geometry;
   within = subst (λ n. v.place.first_block + v.place.blocks ≤ n) (sym goes.blocks) lies.within;
-  few = subst (λ n. n < 2 ^ 32) (sym same-pages) lies.few;
+  few = few-goes f h goes lies.few;
   ring = λ r has. lies_still r f h (lies.ring r has) goes;
 }
-  where
-    same-pages : pages h ≡ pages f
-    same-pages = ap (λ n. n * h.geometry.block) goes.blocks ∙ ap (λ (x : Geometry). f.blocks * x.block) goes.geometry
 
 -- a page that isn't the next one stands before it
 pub before-next : (n next : ℕ) → n ≤ next → (n ≡ next → ⊥) → n < next
@@ -51,7 +47,7 @@ present-other v number bytes other = ap (λ (b : Bool). cond b (waiting_in v) (d
 -- all bytes that wait are there
 pub next-within : (v : VarData) (number n : ℕ) (bytes : List ℕ) → number ≡ next_in v → n ≡ length (waiting_in v) → (n ≡ 0 → ⊥) → (1 ≤ n) × (n ≤ length (present v number bytes)) × (n ≤ room_in v)
 next-within v number n bytes is size some = (
-  not-none n some,
+  pos_of_ne-zero some,
   subst (λ (l : List ℕ). n ≤ length l) (sym (present-next v number bytes is)) (omega (arith, size)),
   omega (arith, size, waiting-room v),
 )

@@ -2,7 +2,7 @@
 use Rattle.std.proofs.Common.{◌≡◌, ℕ, ◌+◌, ◌-◌, ◌*◌, ◌/◌, ◌<◌, ◌≤◌, inl, inr, Bool, true, false, cond, ◌||◌, ◌==◌, Option, Some, unwrap_or, Result, Ok, Err, List, [], ◌∷◌, ◌++◌, length, take, drop, replicate, refl, sym, ◌∙◌, ap, subst, arith, length-append}
 use Rattle.std.specs.Prelude.{option_map, OnOk}
 use Rattle.std.proofs.lemmas.Bool.{eq-eqb, eqb-true, cases_Bool, ne_eqb, lt-ltb, le-ltb, false≢true}
-use Rattle.std.proofs.lemmas.List.{append-nil, drop-drop, drop_at, take_all, take_at}
+use Rattle.std.proofs.lemmas.List.{append-nil, drop-drop, drop_at, take_all, take_at, drop_all}
 use Rattle.std.proofs.Math.Nat.{div-eq_of_lt, mul-add-div_right}
 use Rattle.fl_base.specs.declared.types.BlobRef.{BlobRef}
 use Rattle.fl_base.specs.declared.types.Geometry.{Geometry}
@@ -24,7 +24,6 @@ use Rattle.fl_var.proofs.Joins.{has-joined, seals-none, seals-join, breaks-join,
 use Rattle.fl_frame.proofs.WatchedInTurn.{watched-then}
 use Rattle.fl_var.proofs.OldestKept.{after-then}
 use Rattle.fl_var.proofs.Written.{writes-both}
-use Rattle.fl_var.proofs.Lists.{drop-short}
 use Rattle.fl_var.proofs.PageImages.{waiting-length, waiting-room}
 use Rattle.fl_var.proofs.SealsInTable.{room-planned}
 
@@ -312,7 +311,7 @@ module _ (plan : Plan) (table : Table) (old : VarData) (old_f : FlashState) (som
       RestEnds plan table rose device old old_f result v new
   rest-some rose device (Ok u) v new empty h = record {
     seals_are = subst (λ (xs : List RingName). Seals plan xs table rose device old old_f v new) (sym rest-is) h;
-    buffered = ap (λ (xs : List RingName). (after_seals plan xs table).buffered) rest-is ∙ (drop-short (content_per_page plan) table.buffered rest-fits ∙ sym empty);
+    buffered = ap (λ (xs : List RingName). (after_seals plan xs table).buffered) rest-is ∙ (drop_all (content_per_page plan) table.buffered rest-fits ∙ sym empty);
   }
   rest-some rose device (Err fault) v new empty h = subst (λ (xs : List RingName). Breaks plan xs table rose device fault old new) (sym rest-is) h
 

@@ -1,5 +1,5 @@
 -- Readers of blobs at the exits of their calls: where nothing is left, where a page was given to its end, and where the next one is bad.
-use Rattle.std.proofs.Common.{◌≡◌, ℕ, ◌+◌, ◌-◌, ◌/◌, ◌<◌, ◌≤◌, Bool, true, false, cond, ◌==◌, Option, Some, None, unwrap_or, Result, Ok, Err, List, [], length, take, drop, slice_range, inl, inr, refl, sym, ◌∙◌, ap, arith, length-drop}
+use Rattle.std.proofs.Common.{◌≡◌, ℕ, ◌+◌, ◌-◌, ◌/◌, ◌<◌, ◌≤◌, Bool, true, false, cond, ◌==◌, Option, Some, None, unwrap_or, Result, Ok, Err, List, [], length, take, drop, slice_range, inl, inr, refl, sym, ◌∙◌, ap, arith, length-drop, pos_of_ne-zero}
 use Rattle.std.specs.Prelude.{option_map, nat_lt, if◌then◌else◌}
 use Rattle.std.proofs.lemmas.Bool.{eqb-true, lt-ltb, le-ltb}
 use Rattle.fl_base.specs.declared.types.BlobRef.{BlobRef}
@@ -19,7 +19,6 @@ use Rattle.fl_var.specs.Content.{HasContent}
 use Rattle.fl_var.specs.Memory.{next_in, oldest_in, waiting_in, page_in, image_in, present}
 use Rattle.fl_var.specs.Reading.{IfBad, Opens}
 use Rattle.fl_var.specs.declared.var_data.VarData.{VarData}
-use Rattle.fl_var.proofs.Lists.{not-none}
 use Rattle.fl_var.proofs.PageImages.{image-other}
 
 -- numbers
@@ -32,12 +31,6 @@ some-left n some = omega (arith, some)
 pub none-and-some : (n : ℕ) → n ≡ 0 → 1 ≤ n → ⊥
 none-and-some n none some = omega (arith, none, some)
 
-pub no-more : (end used : ℕ) → end < used → used ≤ end → ⊥
-no-more end used lt le = omega (arith, lt, le)
-
-pub all-given : (end used : ℕ) → end ≤ used → used ≤ end → used ≡ end
-all-given end used le ge = omega (arith, le, ge)
-
 pub not-further : (page next : ℕ) → page ≡ next → page + 1 ≤ next → ⊥
 not-further page next is le = omega (arith, is, le)
 
@@ -45,7 +38,7 @@ pub more-none : (n : ℕ) → n ≡ 0 → false ≡ nat_lt 0 n
 more-none n none = sym (le-ltb 0 n (omega (arith, none)))
 
 pub more-some : (n : ℕ) → (n ≡ 0 → ⊥) → true ≡ nat_lt 0 n
-more-some n some = sym (lt-ltb 0 n (some-left n (not-none n some)))
+more-some n some = sym (lt-ltb 0 n (some-left n (pos_of_ne-zero some)))
 
 -- no bytes
 pub take-none : (n : ℕ) (xs : List ℕ) → n ≡ 0 → take n xs ≡ []

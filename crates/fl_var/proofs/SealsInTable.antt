@@ -1,20 +1,19 @@
 -- A seal of the buffer, in the words of the table.
-use Rattle.std.proofs.Common.{◌≡◌, ℕ, ◌+◌, ◌-◌, ◌*◌, ◌%◌, ◌<◌, ◌≤◌, Bool, true, false, cond, Option, Some, unwrap_or, Result, Ok, Err, List, [], ◌∷◌, map, length, take, refl, sym, ◌∙◌, ap, subst, arith}
+use Rattle.std.proofs.Common.{◌≡◌, ℕ, ◌+◌, ◌-◌, ◌<◌, ◌≤◌, Bool, false, Option, Some, unwrap_or, Result, Ok, Err, List, [], ◌∷◌, map, length, take, sym, ◌∙◌, ap, subst, arith}
 use Rattle.std.specs.Prelude.{option_map, is_some}
-use Rattle.std.proofs.Math.Nat.{mod-lt, mul-le-mul_right, add-mul}
 use Rattle.std.proofs.lemmas.List.{append-nil}
-use Rattle.fl_flash.specs.Flash.{FlashState, pages, page_at}
+use Rattle.std.proofs.lemmas.Option.{same_Some}
+use Rattle.fl_flash.specs.Flash.{FlashState, page_at}
 use Rattle.fl_flash.specs.Places.{extent}
 use Rattle.fl_flash.specs.declared.flash.FlashFault.{FlashFault}
-use Rattle.fl_flash.specs.declared.flash.FlashFault.TheVariants.{PowerLost, Media}
 use Rattle.fl_model.specs.Facts.{IsContent}
 use Rattle.fl_model.specs.Layout as layout
 use Rattle.fl_model.specs.Layout.{ContentPage}
 use Rattle.fl_model.specs.Record.{Plan, content_per_page}
 use Rattle.fl_model.specs.Ring as model
 use Rattle.fl_model.specs.Table.{Table, RingName, VarRing, shape_of, after_seals, seal_buffer, is_dirty}
-use Rattle.fl_model.specs.Work.{Kind, Body, Mark, Erase, Device, PartEnd, Whole, CutIn, FailedIn}
-use Rattle.fl_model.specs.Within.{seal_within, seals_within, effect_within, TablePerforms, all_done}
+use Rattle.fl_model.specs.Work.{Kind, Device}
+use Rattle.fl_model.specs.Within.{seal_within, seals_within, effect_within, TablePerforms}
 use Rattle.fl_model.proofs.Among.{seal-all_done}
 use Rattle.fl_model.proofs.Performs.{performs-whole}
 use Rattle.fl_ring.specs.Counts.{model_shape}
@@ -23,32 +22,28 @@ use Rattle.fl_ring.specs.Operations.{change, seal_kinds}
 use Rattle.fl_ring.specs.Place as place_words
 use Rattle.fl_ring.specs.Place.{StandsFor}
 use Rattle.fl_ring.specs.Ring.{Shape, RingState, IsShape, OnRing, place, count, oldest, sealed}
-use Rattle.fl_ring.specs.Sealing.{IsReady, Performed, AnswersEnd}
+use Rattle.fl_ring.specs.Sealing.{IsReady, Performed}
 use Rattle.fl_ring.specs.declared.ring.Ring as memory
+use Rattle.fl_ring.proofs.Bodies.{kept-later}
 use Rattle.fl_ring.proofs.Counts.{counts_length, counts_sealed}
-use Rattle.fl_ring.proofs.Lengths.{page_length}
+use Rattle.fl_ring.proofs.HeldPages.{IsStateOf, state-oldest}
+use Rattle.fl_ring.proofs.InTable.{of_ring, erases-where, seal-operations, performed-lifts, all-whole}
+use Rattle.fl_ring.proofs.Lengths.{ring_lengths}
+use Rattle.fl_ring.proofs.SealSteps.{seal_end}
 use Rattle.fl_var.specs.Content.{page_with, content_body}
 use Rattle.fl_var.specs.Memory.{next_in, oldest_in, waiting_in, room_in, page_in, var_shape, IsPlanned, IsSamePlan}
 use Rattle.fl_var.specs.Placing.{Seals, Breaks, EndsWith}
 use Rattle.fl_var.specs.Standing.{IsVarRing, HasRing}
 use Rattle.fl_var.specs.declared.var_data.VarData.{VarData}
-use Rattle.fl_var.proofs.Bodies.{counted, once, kept-later, kept-next, kept-torn}
-use Rattle.fl_var.proofs.RingInTable.{of_var, AreErases, page_of, IsRingOf, come-small, performed-lifts, fault-ends, all-whole}
+use Rattle.fl_var.proofs.Bodies.{counted, once, IsBody}
+use Rattle.fl_var.proofs.RingInTable.{page_of, IsRingOf, come-small, step-along, fault-ends}
 use Rattle.fl_var.proofs.PageImages.{filled-length, waiting-room}
-use Rattle.fl_var.proofs.States.{state_of, IsStateOf, state-is, var-ring-of, state-oldest}
+use Rattle.fl_var.proofs.States.{state_of, state-is, var-ring-of}
 
 -- the pages of the flash have their size
 pub pages-size : (v : VarData) (f : FlashState) → f.start + extent f.geometry f.blocks ≤ length f.media.content → f.geometry ≡ v.geometry → v.place.first_block + v.place.blocks ≤ f.blocks →
     (n : ℕ) → length (page_at f (place (var_shape v) n)) ≡ v.geometry.page
-pages-size v f reaches geometry within n =
-    let P = v.geometry.block in
-    let B = v.place.blocks in
-    let room : 0 < v.place.blocks * v.geometry.block = let k : 1 * v.geometry.block ≤ v.place.blocks * v.geometry.block = mul-le-mul_right v.geometry.block (omega (arith, v.some_blocks)) in omega (arith, k, v.served.block_least) in
-    let small : n % (v.place.blocks * v.geometry.block) < v.place.blocks * v.geometry.block = mod-lt n room in
-    let all : (v.place.first_block + v.place.blocks) * v.geometry.block ≤ f.blocks * v.geometry.block = mul-le-mul_right P within in
-    let split : (v.place.first_block + v.place.blocks) * v.geometry.block ≡ v.place.first_block * v.geometry.block + v.place.blocks * v.geometry.block = add-mul v.place.first_block B P in
-    let pages_is : pages f ≡ f.blocks * v.geometry.block = ap (λ g. f.blocks * g.block) geometry in
-    page_length f (place (var_shape v) n) reaches (omega (arith, small, all, split, pages_is)) ∙ ap (λ g. g.page) geometry
+pages-size v f reaches geometry within = ring_lengths f v.geometry v.place.first_block v.place.blocks reaches geometry within (omega (arith, v.some_blocks)) (omega (arith, v.served.block_least))
 
 pub shape-is : (v : VarData) → IsShape (var_shape v)
 shape-is v = record { blocks = v.some_blocks; per_block = v.served.block_least; size = v.served.page_least }
@@ -62,21 +57,6 @@ next-is v ring e = ap (λ (o : Option memory.Ring). unwrap_or (option_map (λ r.
 
 pub oldest-is : (v : VarData) (ring : memory.Ring) → v.ring ≡ Some ring → oldest_in v ≡ place_words.oldest_of ring
 oldest-is v ring e = ap (λ (o : Option memory.Ring). unwrap_or (option_map (λ r. place_words.oldest_of r) o) 0) e
-
--- what all operations of a seal leave
-module _ (r : Shape) (s : RingState) (body : List ℕ) (shape : IsShape r) (known : count s ≤ s.next) where
-  pub record IsEnd (left : RingState) : Type 0 where
-    pub whole : left.torn ≡ false
-    pub clean : left.dirty ≡ false
-    pub next_is : left.next ≡ s.next + 1
-    pub oldest_is : oldest left ≡ oldest (sealed r s body)
-
-  pub seal-end : IsEnd (all_done (change r body) (seal_kinds r s body) s)
-  seal-end = by_dirt (sealed r s body).dirty refl
-    where
-      by_dirt : (b : Bool) → (sealed r s body).dirty ≡ b → IsEnd (all_done (change r body) (cond b (Erase ∷ []) []) (sealed r s body))
-      by_dirt true e = record { whole = kept-torn r s (Some body) shape known; clean = refl; next_is = kept-next r s (Some body) shape known; oldest_is = refl }
-      by_dirt false e = record { whole = kept-torn r s (Some body) shape known; clean = e; next_is = kept-next r s (Some body) shape known; oldest_is = refl }
 
 -- the room of a page
 pub room-planned : (v : VarData) (plan : Plan) → IsPlanned v plan → content_per_page plan ≡ room_in v
@@ -92,7 +72,7 @@ module _ (v : VarData) (f g : FlashState) (plan : Plan) (table : Table) (has : H
   abbrev s : RingState
   s = state_of has.ring table.var_pages
 
-  is : IsStateOf (var_shape v) plan (page_at f) sizes (shape-is v) (shape-here v plan has.planned) has.ring table.var_pages (state_of has.ring table.var_pages)
+  is : IsStateOf (IsBody plan) once (var_shape v) (page_at f) has.ring table.var_pages (state_of has.ring table.var_pages)
   is = state-is (var_shape v) plan (page_at f) sizes (shape-is v) (shape-here v plan has.planned) has.ring table.var_pages has.pages
 
   known : count (state_of has.ring table.var_pages) ≤ has.ring.next
@@ -103,7 +83,7 @@ module _ (v : VarData) (f g : FlashState) (plan : Plan) (table : Table) (has : H
   ready ring e = record {
     stands = record {
       next = sym (next-is v ring e) ∙ has.next;
-      oldest = sym (oldest-is v ring e) ∙ (has.oldest_is ∙ sym (state-oldest has.ring table.var_pages));
+      oldest = sym (oldest-is v ring e) ∙ (has.oldest_is ∙ sym (state-oldest layout.content_body has.ring table.var_pages));
     };
     on = subst (λ (x : Shape). OnRing x (page_at f) (state_of has.ring table.var_pages)) (sym (v.lies ring e)) is.on;
     whole = has.whole;
@@ -130,16 +110,12 @@ module _ (v : VarData) (f g : FlashState) (plan : Plan) (table : Table) (has : H
         good = next_good;
         small = omega (arith, small, has.next);
       },
-      erases (sealed (var_shape v) (state_of has.ring table.var_pages) body).dirty,
+      erases-where (sealed (var_shape v) (state_of has.ring table.var_pages) body).dirty,
     );
   }
-    where
-      erases : (b : Bool) → AreErases (cond b (Erase ∷ []) [])
-      erases true = tt
-      erases false = tt
 
-  kinds-are : map of_var (seal_kinds (var_shape v) (state_of has.ring table.var_pages) body) ≡ seals_within plan (VarRing ∷ []) table
-  kinds-are = by_dirt (sealed r s body).dirty ∙ (ap (λ (d : Bool). (VarRing, Body) ∷ (VarRing, Mark) ∷ (cond d ((VarRing, Erase) ∷ []) [])) dirt ∙ sym (append-nil (seal_within plan VarRing table)))
+  kinds-are : map (of_ring VarRing) (seal_kinds (var_shape v) (state_of has.ring table.var_pages) body) ≡ seals_within plan (VarRing ∷ []) table
+  kinds-are = seal-operations VarRing plan table r s body dirt ∙ sym (append-nil (seal_within plan VarRing table))
     where
       dirt : (sealed (var_shape v) (state_of has.ring table.var_pages) body).dirty ≡ is_dirty VarRing (seal_buffer plan VarRing table)
       dirt =
@@ -148,20 +124,16 @@ module _ (v : VarData) (f g : FlashState) (plan : Plan) (table : Table) (has : H
           ∙ ap (λ (x : model.Ring). Some x) (ap (λ (m : model.Shape). model.sealed m 1 (counted (state_of has.ring table.var_pages))) (sym (shape-here v plan has.planned)) ∙ sym (counts_sealed once (var_shape v) (state_of has.ring table.var_pages) body)) in
           ap (λ (o : Option model.Ring). unwrap_or (option_map (λ (x : model.Ring). x.dirty) o) false) (sym ring_is)
 
-      by_dirt : (b : Bool) → map of_var (Body ∷ Mark ∷ (cond b (Erase ∷ []) [])) ≡ (VarRing, Body) ∷ (VarRing, Mark) ∷ (cond b ((VarRing, Erase) ∷ []) [])
-      by_dirt true = refl
-      by_dirt false = refl
-
   -- an operation of it failed
   pub seal-breaks : (rose : Bool) (device : Device) (fault : FlashFault) →
       Performed (var_shape v) (change (var_shape v) body) rose (seal_kinds (var_shape v) (state_of has.ring table.var_pages) body) device (state_of has.ring table.var_pages) (Err fault) g →
       Breaks plan (VarRing ∷ []) table rose device fault v g
   seal-breaks rose device fault h =
-      let l = performed-lifts (var_shape v) plan body (shape-is v) (shape-here v plan has.planned) rose (seal_kinds r s body) device s table (Err fault) g begins h in
+      let l = performed-lifts (IsRingOf plan body) r plan VarRing body (step-along r plan body (shape-is v) (shape-here v plan has.planned)) rose (seal_kinds r s body) device s table (Err fault) g begins h in
       record {
         now = l.now;
         did = subst (λ (ops : List (RingName × Kind)). TablePerforms plan rose ops device table l.now) kinds-are l.did;
-        answer = fault-ends (var_shape v) plan body (shape-is v) (shape-here v plan has.planned) l.now.end fault g l.answer;
+        answer = fault-ends l.now.end fault g l.answer;
         counts = l.counts;
         ring = counted h.now.state;
         ring_is = l.is.var_is;
@@ -176,15 +148,15 @@ module _ (v : VarData) (f g : FlashState) (plan : Plan) (table : Table) (has : H
       ((n : ℕ) → oldest (sealed (var_shape v) (state_of has.ring table.var_pages) body) ≤ n → n < has.ring.next → page_in v g n ≡ page_in v f n) →
       Seals plan (VarRing ∷ []) table rose device v f w g
   seal-finishes rose device u w ring h stands ring_is same page_is stays =
-      let l = performed-lifts (var_shape v) plan body (shape-is v) (shape-here v plan has.planned) rose (seal_kinds r s body) device s table (Ok u) g begins h in
-      let all = all-whole (var_shape v) plan body (shape-is v) (shape-here v plan has.planned) l.now.end u g l.answer in
+      let l = performed-lifts (IsRingOf plan body) r plan VarRing body (step-along r plan body (shape-is v) (shape-here v plan has.planned)) rose (seal_kinds r s body) device s table (Ok u) g begins h in
+      let all = all-whole l.now.end u g l.answer in
       let did : TablePerforms plan rose (seals_within plan (VarRing ∷ []) table) device table l.now = subst (λ (ops : List (RingName × Kind)). TablePerforms plan rose ops device table l.now) kinds-are l.did in
       let alone : TablePerforms plan rose (seal_within plan VarRing table) device table l.now = subst (λ (ops : List (RingName × Kind)). TablePerforms plan rose ops device table l.now) (append-nil (seal_within plan VarRing table)) did in
       let after : l.now.state ≡ after_seals plan (VarRing ∷ []) table = (performs-whole (λ operation. operation.1) (effect_within plan) rose (seal_within plan VarRing table) device table l.now alone all.0).0 ∙ seal-all_done plan VarRing table in
-      let ends : IsEnd (var_shape v) s body (shape-is v) known h.now.state = subst (IsEnd (var_shape v) s body (shape-is v) known) (sym (ring_whole h)) (seal-end (var_shape v) s body (shape-is v) known) in
+      let ends = seal_end (var_shape v) s body rose device u g h in
       let oldest_now : model.oldest (counted h.now.state) ≡ oldest (sealed (var_shape v) (state_of has.ring table.var_pages) body) =
       ap (λ n. h.now.state.next - n) (counts_length once h.now.state) ∙ ends.oldest_is in
-      let later = kept-later (var_shape v) s (Some body) (shape-is v) known in
+      let later = kept-later (var_shape v) s (Some body) known in
       record {
         now = l.now;
         did = did;
@@ -206,36 +178,15 @@ module _ (v : VarData) (f g : FlashState) (plan : Plan) (table : Table) (has : H
           oldest_is = oldest-is w ring ring_is ∙ (stands.oldest ∙ ap (λ n. h.now.state.next - n) (sym (counts_length once h.now.state)));
         };
         stand = λ before e.
-            let same_ring = ring_same before e in
+            let same_ring = same_Some before has.ring (sym e ∙ has.ring_is) in
             subst (λ (pg : ℕ → List ℕ). PagesStand before (page_in v f) (counted h.now.state) pg) (sym page_is)
             (subst (λ (x : model.Ring). PagesStand x (page_in v f) (counted h.now.state) (page_in v g)) (sym same_ring)
             (record {
-              later = omega (arith, oldest_now, later, state-oldest has.ring table.var_pages);
+              later = omega (arith, oldest_now, later, state-oldest layout.content_body has.ring table.var_pages);
               further = omega (arith, ends.next_is);
               bytes = λ n low high. stays n (omega (arith, low, oldest_now)) high;
             }));
       }
-    where
-      ring_same : (before : model.Ring) → table.var ≡ Some before → before ≡ has.ring
-      ring_same before e = one (sym e ∙ has.ring_is)
-        where
-          one : Some before ≡ Some has.ring → before ≡ has.ring
-          one k = cc
-
-      answers : (e : PartEnd RingState) → AnswersEnd e (Ok u) g → e ≡ Whole
-      answers Whole a = refl
-      answers (CutIn b) a = absurd (not_err PowerLost a.0)
-        where
-          not_err : (fault : FlashFault) → ◌≡◌ {A = Result (Unit {0}) FlashFault} (Ok u) (Err fault) → ⊥
-          not_err fault e = cc
-      answers (FailedIn b) a = absurd (not_err Media a.0)
-        where
-          not_err : (fault : FlashFault) → ◌≡◌ {A = Result (Unit {0}) FlashFault} (Ok u) (Err fault) → ⊥
-          not_err fault e = cc
-
-      ring_whole : (x : Performed (var_shape v) (change (var_shape v) body) rose (seal_kinds (var_shape v) (state_of has.ring table.var_pages) body) device (state_of has.ring table.var_pages) (Ok u) g) →
-          x.now.state ≡ all_done (change (var_shape v) body) (seal_kinds (var_shape v) (state_of has.ring table.var_pages) body) (state_of has.ring table.var_pages)
-      ring_whole x = (performs-whole (λ kind. kind) (change (var_shape v) body) rose (seal_kinds r s body) device s x.now x.did (answers x.now.end x.answer)).0
 
 pub seal-err : (plan : Plan) (seals : List RingName) (table : Table) (rose : Bool) (device : Device) (old : VarData) (old_f : FlashState) (v : VarData) (new : FlashState) (result : Result (Unit {0}) FlashFault) (fault : FlashFault) → result ≡ Err fault →
     Breaks plan seals table rose device fault old new → EndsWith plan seals table rose device old old_f result v new

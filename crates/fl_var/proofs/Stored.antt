@@ -1,6 +1,5 @@
 -- The bytes of a blob in the contents of its pages.
 use Rattle.std.proofs.Common.{◌≡◌, ℕ, zero, suc, ◌+◌, ◌-◌, ◌*◌, ◌/◌, ◌%◌, ◌<◌, ◌≤◌, Some, List, [], ◌∷◌, ◌++◌, length, drop, refl, ◌∙◌, ap, arith}
-use Rattle.std.proofs.Math.Nat.{mod-lt}
 use Rattle.std.proofs.lemmas.List.{length-take-le, length-drop}
 use Rattle.std.proofs.lemmas.Nat.{le-div, div-add-mod'}
 use Rattle.std.specs.List.{slice_get}
@@ -59,6 +58,3 @@ place-last from len j room wide lt same =
     let b = div-add-mod' (from + len - 1) room in
     let c = ap (λ q. q * room) same in
     omega (arith, a, b, c, lt)
-
-pub place-lt : (n room : ℕ) → 0 < room → n % room < room
-place-lt n room wide = mod-lt n wide

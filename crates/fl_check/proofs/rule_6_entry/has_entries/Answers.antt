@@ -1,4 +1,4 @@
-use Rattle.std.proofs.Common.{ℕ, List, ◌+◌, ◌*◌, ◌≤◌, inl, inr, sym, subst, arith}
+use Rattle.std.proofs.Common.{ℕ, List, ◌+◌, ◌*◌, ◌≤◌, inl, inr, sym, subst, arith, le_antisymm}
 use Rattle.std.proofs.Math.Nat.{mul-le-mul_right}
 use Rattle.std.proofs.lemmas.Bool.{cases_eq, true≢false, false≢true}
 use Rattle.fl_flash.specs.Flash.{page_at}
@@ -8,7 +8,7 @@ use Rattle.fl_ring.proofs.Founds.{same_pages}
 use Rattle.fl_frame.proofs.ReadsInTurn.{more_reads, told_still}
 use Rattle.fl_check.specs.Entries.{over, IsEntry}
 use Rattle.std.proofs.lemmas.Result.{err_from_is_err_and}
-use Rattle.fl_rules.proofs.OneMorePage.{read_fails, all_below}
+use Rattle.fl_rules.proofs.OneMorePage.{read_fails}
 use Rattle.fl_ring.proofs.Exists.{lies_still}
 use Rattle.fl_ring.proofs.ReadsInTurn.{fewer_reads}
 use Rattle.fl_rules.specs.Claims.{AllBelow}
@@ -108,7 +108,7 @@ returns-then-not-is-clause-yes g c = λ yes. absurd (false≢true yes)
 
 pub returns-clause-yes : goal.returns-clause-yes
 returns-clause-yes g c = λ yes told.
-    subst (λ (k : ℕ). AllBelow (IsEntry (page_at (g.F.Flash.state c.args.flash.now)) (shape_of c.args.rows.now) (over c.args.l) c.args.listing.now) k) (all_below c.loop-j.auto.j-end c.loop-j-test.false)
+    subst (λ (k : ℕ). AllBelow (IsEntry (page_at (g.F.Flash.state c.args.flash.now)) (shape_of c.args.rows.now) (over c.args.l) c.args.listing.now) k) (le_antisymm c.loop-j.auto.j-end c.loop-j-test.false)
     (c.loop-j.invariant.entries told)
 
 pub returns-clause-no : goal.returns-clause-no

@@ -1,4 +1,5 @@
 use Rattle.std.proofs.Common.{◌≡◌, ◌+◌, sym, subst, arith}
+use Rattle.std.proofs.lemmas.Result.{IfOk-weaker}
 use Rattle.fl_flash.specs.Flash.{page_at}
 use Rattle.fl_index.specs.Page.{page_first}
 use Rattle.fl_ring.specs.Newest.{page_back}
@@ -6,7 +7,6 @@ use Rattle.fl_ring.specs.Place.{shape_of}
 use Rattle.fl_check.specs.Entries.{over}
 use Rattle.fl_rules.specs.Told.{TellsPage}
 use Rattle.fl_check.proofs.ListedPages.{entry_for, told_for, no_entry}
-use Rattle.fl_rules.proofs.Stops.{if_ok}
 use Rattle.fl_check.proofs.rule_6_entry.is_entry.Goals as goal
 
 pub returns-in-None-clause-yes : goal.returns-in-None-clause-yes
@@ -21,7 +21,7 @@ returns-in-Some-clause-yes g c =
     let rows = shape_of c.args.rows.now in
     let l = over c.args.l in
     let back = c.in-Some.ensures.some in
-    if_ok _ _ c.tells_back.result
+    IfOk-weaker c.tells_back.result _ _
     (λ is tells yes told. entry_for page rows l c.args.listing.now c.args.j c.in-Some.back (omega (arith, back.2, c.from.ensures, c.from-2.ensures, c.first_in.ensures))
     (subst (TellsPage l.layout (page (page_back rows l.rows.marks.at c.in-Some.back))) c.found_in-entry.ensures (tells yes told)))
     c.tells_back.ensures.yes
@@ -32,7 +32,7 @@ returns-in-Some-clause-no g c =
     let rows = shape_of c.args.rows.now in
     let l = over c.args.l in
     let back = c.in-Some.ensures.some in
-    if_ok _ _ c.tells_back.result
+    IfOk-weaker c.tells_back.result _ _
     (λ is tells no told entry. tells no told (subst (TellsPage l.layout (page (page_back rows l.rows.marks.at c.in-Some.back))) (sym c.found_in-entry.ensures)
     (told_for page rows l c.args.listing.now c.args.j c.in-Some.back back.0 back.1 (omega (arith, back.2, c.from.ensures, c.from-2.ensures, c.first_in.ensures)) entry)))
     c.tells_back.ensures.no

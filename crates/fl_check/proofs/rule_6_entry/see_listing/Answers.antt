@@ -1,4 +1,4 @@
-use Rattle.std.proofs.Common.{◌≡◌, ℕ, ◌+◌, ◌-◌, ◌≤◌, List, length, refl, sym, ◌∙◌, ap, arith, subst, ◌<◌}
+use Rattle.std.proofs.Common.{◌≡◌, ℕ, ◌+◌, ◌-◌, ◌≤◌, List, length, refl, sym, ◌∙◌, ap, arith, subst, ◌<◌, le_refl}
 use Rattle.std.proofs.lemmas.Bool.{true≢false}
 use Rattle.fl_flash.specs.Flash.{FlashState, page_at}
 use Rattle.fl_frame.specs.Reads.{OnlyReads}
@@ -14,7 +14,7 @@ use Rattle.fl_check.specs.Entries.{over, entries_in, kept_below}
 use Rattle.fl_rules.specs.declared.numbering.Numbering.{Numbering}
 use Rattle.fl_check.proofs.ListedPages.{one_more, descends, misentered, listing_more, entries_move}
 use Rattle.std.proofs.lemmas.Result.{err_from_is_err_and}
-use Rattle.fl_rules.proofs.OneMorePage.{one_of, at_most, behind, one_behind, read_fails, some_back, few_back}
+use Rattle.fl_rules.proofs.OneMorePage.{one_of, behind, one_behind, read_fails, some_back, few_back}
 use Rattle.fl_check.proofs.rule_6_entry.see_listing.Goals as goal
 
 below-kept : {i kept : ℕ} → i < kept → i ≤ kept
@@ -138,7 +138,7 @@ pub returns-then-not-is_committed-clause-reads : goal.returns-then-not-is_commit
 returns-then-not-is_committed-clause-reads g c = fewer_reads (g.F.Flash.state c.args.flash.now) (g.F.Flash.state c.look.new.flash) 1 (1 + _) c.look.ensures.reads (one_of _)
 
 pub returns-then-not-is_committed-clause-few_reads : goal.returns-then-not-is_committed-clause-few_reads
-returns-then-not-is_committed-clause-few_reads g c = (fewer_reads (g.F.Flash.state c.args.flash.now) (g.F.Flash.state c.look.new.flash) 1 (1 + _) c.look.ensures.reads (one_of _), at_most _)
+returns-then-not-is_committed-clause-few_reads g c = (fewer_reads (g.F.Flash.state c.args.flash.now) (g.F.Flash.state c.look.new.flash) 1 (1 + _) c.look.ensures.reads (one_of _), le_refl _)
 
 pub returns-then-not-is_committed-clause-listing : goal.returns-then-not-is_committed-clause-listing
 returns-then-not-is_committed-clause-listing g c = c.look.ensures.room ∙ c.requires.listing

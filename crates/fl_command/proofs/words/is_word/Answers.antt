@@ -1,5 +1,5 @@
 use Rattle.std.proofs.Common.{◌∙◌}
-use Rattle.fl_config.proofs.Names.{bytes_equal-is}
+use Rattle.fl_model.proofs.Names.{bytes_equal-is}
 use Rattle.fl_command.proofs.words.is_word.Goals as goal
 
 pub returns : goal.returns

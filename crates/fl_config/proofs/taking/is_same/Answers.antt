@@ -1,5 +1,5 @@
 use Rattle.std.proofs.Common.{◌∙◌}
-use Rattle.fl_config.proofs.Names.{bytes_equal-is}
+use Rattle.fl_model.proofs.Names.{bytes_equal-is}
 use Rattle.fl_config.proofs.taking.is_same.Goals as goal
 
 pub returns : goal.returns

@@ -7,7 +7,7 @@ use Rattle.fl_config.specs.Label.{LineLabel, plan_with}
 use Rattle.fl_config.specs.Lines.{place_faults, line_faults}
 use Rattle.fl_config.specs.Words.{line_of, label_in}
 use Rattle.fl_plan.proofs.Faults.{some-first}
-use Rattle.fl_config.proofs.Made.{ring-blocks}
+use Rattle.fl_plan.proofs.RingPlaces.{ring-blocks}
 use Rattle.fl_config.proofs.Told.{tells-err}
 use Rattle.fl_config.proofs.Takes.{last_part, some-size, none-size, told-next, told-last, told-none, last-passes, log-taken, passes-alone}
 use Rattle.fl_config.proofs.taking.table_of.Goals as goal

@@ -1,7 +1,7 @@
 use Rattle.std.proofs.Common.{sym, refl, ◌∙◌, arith, rules, ◌≡◌, ◌+◌}
 use Rattle.fl_csv.specs.Text.{header_text}
-use Rattle.fl_script.proofs.SinkPieces.{sent-failed, sent-piece, written-err}
-use Rattle.fl_csv.proofs.Sends.{last_text, left_of, header-parts, header-next, header-end, sent-start, sent-last}
+use Rattle.fl_script.proofs.SinkPieces.{sent-failed, sent-piece, written-err, sent-none}
+use Rattle.fl_csv.proofs.Sends.{last_text, left_of, header-parts, header-next, header-end, sent-last}
 use Rattle.fl_csv.proofs.write.header_line.Goals.{then-blobs, else-blobs}
 use Rattle.fl_csv.proofs.write.header_line.Goals as goal
 
@@ -9,13 +9,13 @@ pub returns-in_err-write_all-clause-text : goal.returns-in_err-write_all-clause-
 returns-in_err-write_all-clause-text g c =
     let header = header_text c.args.columns c.args.blobs in
     written-err _ _ _ header c.from_residual.ensures.0
-    (sent-failed _ _ _ header header (left_of c.args.columns c.args.blobs 0) _ (sent-start _ header) c.in_err-write_all.ensures.text (header-parts c.args.columns c.args.blobs))
+    (sent-failed _ _ _ header header (left_of c.args.columns c.args.blobs 0) _ (sent-none _ header) c.in_err-write_all.ensures.text (header-parts c.args.columns c.args.blobs))
 
 pub names-init : goal.names-init
 names-init g c =
     let header = header_text c.args.columns c.args.blobs in
     record {
-      sent = sent-piece _ _ _ header header (left_of c.args.columns c.args.blobs 0) _ (sent-start _ header) c.in_ok-write_all.ensures.text (header-parts c.args.columns c.args.blobs);
+      sent = sent-piece _ _ _ header header (left_of c.args.columns c.args.blobs 0) _ (sent-none _ header) c.in_ok-write_all.ensures.text (header-parts c.args.columns c.args.blobs);
       later = c.in_ok-write_all.ensures.cause.later;
     }
 

@@ -2,13 +2,13 @@ use Rattle.std.proofs.Common.{◌≡◌, ◌<◌, ◌≤◌, inl, inr, rules, le
 use Rattle.std.proofs.Math.Nat.{le_refl}
 use Rattle.std.proofs.lemmas.Option.{slice_get_within}
 use Rattle.fl_base.specs.declared.types.Geometry.{Geometry}
+use Rattle.fl_base.proofs.Risen.{rose-back}
 use Rattle.fl_store.proofs.Unarmed.{opened-unarmed}
 use Rattle.fl_image.specs.declared.status.ToolStatus.TheVariants.{NoMemory}
 use Rattle.fl_store.specs.FoundTable.{FindsNone}
 use Rattle.fl_store.specs.Tables.{IsNamed}
 use Rattle.fl_store.specs.declared.tables.Tables.{Tables}
 use Rattle.fl_store.proofs.FoundTables.{found-holds}
-use Rattle.fl_store.proofs.CallsInTurn.{rose-back}
 use Rattle.fl_store.proofs.Jobs.{job-over, unopened}
 use Rattle.fl_store.proofs.Named.{image-with}
 use Rattle.fl_store.proofs.Opened.{looks-keeps, keeps-then}

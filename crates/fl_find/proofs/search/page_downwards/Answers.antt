@@ -1,5 +1,6 @@
 use Rattle.std.proofs.Common.{rules, ◌≡◌, ◌+◌, ◌-◌, refl, sym, subst, arith}
 use Rattle.std.proofs.lemmas.Result.{IfOk-weaker, IfErr-weaker}
+use Rattle.std.proofs.lemmas.Option.{IfSome_then}
 use Rattle.fl_flash.specs.Buffer.{BufferState}
 use Rattle.fl_flash.specs.Flash.{FlashState}
 use Rattle.fl_ring.specs.Place.{shape_of, oldest_of}
@@ -7,7 +8,7 @@ use Rattle.fl_schema.specs.Schema.{layout_of}
 use Rattle.fl_find.specs.Pages.{first_on, IsFresh}
 use Rattle.fl_find.specs.Looking.{OnlyLooks, LookFails}
 use Rattle.fl_find.proofs.PageLooks.{since-same}
-use Rattle.fl_find.proofs.Moves.{lies-looked, room-looked, holds-moved, if-some, page-moved}
+use Rattle.fl_find.proofs.Moves.{lies-looked, room-looked, holds-moved, page-moved}
 use Rattle.fl_find.proofs.Sound.{blames-below, none-bad, none-searched}
 use Rattle.fl_find.proofs.search.page_downwards.Goals as goal
 
@@ -46,7 +47,7 @@ returns-clause-holds g c =
     let same : g.F.Flash.state c.flash-1.given.0 ≡ g.F.Flash.state c.near.new.keys.flash.now = search rules in
     let looks : OnlyLooks (g.F.Flash.state c.args.flash.now) (g.F.Flash.state c.flash-1.given.0) = subst (λ (f : FlashState). OnlyLooks (g.F.Flash.state c.args.flash.now) f) (sym same) since.looks in
     let here : c.buf-1.given.0 ≡ c.near.new.keys.buf.now = search rules in
-    IfOk-weaker c.near.result _ _ (λ page h. if-some _ _ page (λ n k. holds-moved _ _ _ _ _ _ _ _ n since.layout_is since.ring_is (sym same) (sym here) k) h) c.near.ensures.here
+    IfOk-weaker c.near.result _ _ (λ page h. IfSome_then page h (λ n k. holds-moved _ _ _ _ _ _ _ _ n since.layout_is since.ring_is (sym same) (sym here) k)) c.near.ensures.here
 
 pub returns-clause-fails : goal.returns-clause-fails
 returns-clause-fails g c =

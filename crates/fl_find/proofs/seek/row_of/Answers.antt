@@ -3,10 +3,11 @@ use Rattle.std.specs.List.{slice_get}
 use Rattle.fl_model.specs.Row.{Row}
 use Rattle.fl_page.specs.Page.{key_at}
 use Rattle.fl_page.specs.View.{page_of, layout_of_page, count_of, rows_of}
+use Rattle.fl_page.proofs.RowsFrom.{length-rows_from}
 use Rattle.fl_schema.specs.Schema.{layout_of, row_of}
 use Rattle.fl_schema.specs.Form.{types_in}
 use Rattle.fl_find.specs.Rows.{RowsRise, LacksKey}
-use Rattle.fl_find.proofs.RowSearch.{rows-view, row-key, length-rows_from, keys-rise, lacks}
+use Rattle.fl_find.proofs.RowSearch.{rows-view, row-key, keys-rise, lacks}
 use Rattle.fl_find.proofs.seek.row_of.Goals as goal
 use Rattle.fl_find.proofs.seek.row_of.Goals.{else-row-rows-via-then-row-rows+else-key, else-row-rows-via-else-row-rows}
 

@@ -1,10 +1,10 @@
 use Rattle.std.proofs.Common.{ℕ, List, Err, inl, ap, subst}
+use Rattle.fl_base.proofs.Appended.{appends-none}
 use Rattle.fl_words.specs.Config.{Lines}
 use Rattle.fl_image_check.specs.Checking.{TablesEndBy}
 use Rattle.fl_image.specs.declared.status.ToolStatus.{ToolStatus}
 use Rattle.fl_image.proofs.Reach.{reach}
 use Rattle.fl_image_check.proofs.CheckEnds.{over-of, ends-over, image-ends, early-ends, ends-known}
-use Rattle.fl_image_check.proofs.ToldTables.{told-none}
 use Rattle.fl_image_check.proofs.check.check_tables_of.Goals as goal
 
 pub with_room-flash-requires-clause-reach : goal.with_room-flash-requires-clause-reach
@@ -19,10 +19,10 @@ check_tables-status-requires g c = record {
 }
 
 pub returns-in_default-clause-ends : goal.returns-in_default-clause-ends
-returns-in_default-clause-ends g c told = inl (told-none (g.K.Sink.written c.args.out.now))
+returns-in_default-clause-ends g c told = inl (appends-none (g.K.Sink.written c.args.out.now))
 
 pub returns-in_default-new-clause-ends : goal.returns-in_default-new-clause-ends
-returns-in_default-new-clause-ends g c told = inl (told-none (g.K.Sink.written c.args.out.now))
+returns-in_default-new-clause-ends g c told = inl (appends-none (g.K.Sink.written c.args.out.now))
 
 pub returns-in-Err-clause-ends : goal.returns-in-Err-clause-ends
 returns-in-Err-clause-ends g c told =

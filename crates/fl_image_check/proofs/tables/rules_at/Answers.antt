@@ -1,11 +1,12 @@
 use Rattle.std.proofs.Common.{refl}
-use Rattle.fl_image_check.proofs.ToldTables.{plan-there, config-there, lies-at, log-there, log-alone, log-lies-at}
+use Rattle.fl_model.proofs.Lists.{slice_get-some}
+use Rattle.fl_image_check.proofs.ToldTables.{config-there, lies-at, log-there, log-alone, log-lies-at}
 use Rattle.fl_image_check.proofs.tables.rules_at.Goals as goal
 
 pub check_rules-requires : goal.check_rules-requires
 check_rules-requires g c =
     let lines = c.args.config.now in
-    let p = plan-there lines.plans c.args.i c.requires.table in
+    let p = slice_get-some lines.plans c.args.i c.requires.table in
     let is = config-there lines.plans c.args.i p.0 c.table.result.now p.1 c.table.ensures.plan in
     record {
       lies = lies-at lines (g.F.Flash.state c.args.flash.now) c.args.i p.0 c.table.result.now c.requires.over p.1 is c.table.ensures.first c.table.ensures.device c.table.ensures.limits c.table.ensures.passes;
@@ -16,7 +17,7 @@ check_rules-requires g c =
 pub returns-in-Ok-clause-found : goal.returns-in-Ok-clause-found
 returns-in-Ok-clause-found g c told =
     let lines = c.args.config.now in
-    let p = plan-there lines.plans c.args.i c.requires.table in
+    let p = slice_get-some lines.plans c.args.i c.requires.table in
     let is = config-there lines.plans c.args.i p.0 c.table.result.now p.1 c.table.ensures.plan in
     record {
       plan = p.0;

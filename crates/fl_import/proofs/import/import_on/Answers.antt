@@ -1,5 +1,6 @@
 use Rattle.std.proofs.Common.{◌≡◌, inr, true, false, is_some, IsTrue, IfSome, Some, length, refl, sym, ◌∙◌, subst, arith}
 use Rattle.std.proofs.lemmas.Option.{slice_get_within}
+use Rattle.fl_base.proofs.Risen.{rose-back}
 use Rattle.fl_frame.proofs.WatchedInTurn.{unarmed-then}
 use Rattle.fl_frame.proofs.CallsInTurn.{goes-then}
 use Rattle.fl_store.proofs.Called.{entry-at}
@@ -9,7 +10,6 @@ use Rattle.fl_store.proofs.Risen.{has_risen, watched}
 use Rattle.fl_store.proofs.Unmounted as mount
 use Rattle.fl_image.specs.declared.status.ToolStatus.TheVariants.{Device, BadInput}
 use Rattle.fl_store.specs.Tables.{first_of}
-use Rattle.fl_store.proofs.CallsInTurn.{rose-back}
 use Rattle.fl_import.specs.Images.{EndsOn, HasCauses, told_of}
 use Rattle.fl_import.specs.Taking.{EndedOver}
 use Rattle.fl_store.proofs.Changed.{own, own-works}

@@ -1,10 +1,11 @@
 use Rattle.std.proofs.Common.{◌≡◌, false, IsTrue, Err, sym, ◌∙◌, subst}
+use Rattle.fl_base.proofs.Risen.{rose-back}
 use Rattle.fl_flash.specs.Flash.{page_at}
 use Rattle.fl_frame.proofs.WatchedInTurn.{unarmed-then}
 use Rattle.fl_frame.proofs.CallsInTurn.{goes-then}
 use Rattle.fl_image.specs.declared.status.ToolStatus.TheVariants.{Device}
 use Rattle.fl_store.proofs.Outsides.{outside-then}
-use Rattle.fl_store.proofs.CallsInTurn.{rose-back, same-on}
+use Rattle.fl_store.proofs.CallsInTurn.{same-on}
 use Rattle.fl_import.specs.Steps.{IsOfTable, is_broken}
 use Rattle.fl_import.proofs.LastFlush.{failed-ends, broken-is, flush-broken, flush-ended, flush-of, flush-read, flush-rose, flush-write, lines, all-ends, all-ended, all-of, all-read, all-rose, all-write}
 use Rattle.fl_store.proofs.Works.{works-watched}

@@ -1,14 +1,15 @@
-use Rattle.std.proofs.Common.{◌≡◌, IfSome, Option, inl, inr, refl, sym, ◌∙◌, ap, subst}
+use Rattle.std.proofs.Common.{◌≡◌, IfSome, Option, inl, inr, refl, sym, ◌∙◌, ap, subst, le-add_right}
 use Rattle.fl_model.specs.Record.{Plan}
 use Rattle.fl_rules.proofs.LooksChangeNothing.{told_still}
 use Rattle.fl_check.proofs.PlacesStay.{fits_still, log_still}
-use Rattle.fl_image_check.proofs.ToldTables.{plan-there, config-there, lies-at, log-there, log-alone, log-lies-at}
+use Rattle.fl_image_check.proofs.ToldTables.{config-there, lies-at, log-there, log-alone, log-lies-at}
 use Rattle.fl_image_check.proofs.Ringed.{fits, log-fits}
 use Rattle.fl_map.specs.Canvas.{drawn_of}
 use Rattle.fl_map.proofs.Tables.{table-drawn}
 use Rattle.fl_base.specs.declared.types.Geometry.{Geometry}
+use Rattle.fl_model.proofs.Lists.{slice_get-some}
 use Rattle.fl_frame.proofs.ReadsInTurn.{looks_more}
-use Rattle.fl_map.proofs.Ends.{fault-room, fault-top, memory-device, no-more, ok-device, table-top}
+use Rattle.fl_map.proofs.Ends.{fault-room, fault-top, memory-device, ok-device, table-top}
 use Rattle.fl_map.proofs.map.draw_table.Goals as goal
 
 pub check_table-requires : goal.check_table-requires
@@ -16,7 +17,7 @@ check_table-requires g c =
     let lines = c.args.config.now in
     let f = g.F.Flash.state c.args.flash.now in
     let table = c.table-table.ensures in
-    let p = plan-there lines.plans c.args.i c.requires.table in
+    let p = slice_get-some lines.plans c.args.i c.requires.table in
     let is = config-there lines.plans c.args.i p.0 c.table-table.result.now p.1 table.plan in
     record {
       fits = fits c.table-table.result.now f (lies-at lines f c.args.i p.0 c.table-table.result.now c.requires.over p.1 is table.first table.device table.limits table.passes);
@@ -30,7 +31,7 @@ draw_rings-requires-clause-fits g c =
     let lines = c.args.config.now in
     let f = g.F.Flash.state c.args.flash.now in
     let table = c.table-table.ensures in
-    let p = plan-there lines.plans c.args.i c.requires.table in
+    let p = slice_get-some lines.plans c.args.i c.requires.table in
     let is = config-there lines.plans c.args.i p.0 c.table-table.result.now p.1 table.plan in
     fits_still c.table-table.result.now f (g.F.Flash.state c.check_table.new.flash) c.check_table.ensures.looks
     (fits c.table-table.result.now f (lies-at lines f c.args.i p.0 c.table-table.result.now c.requires.over p.1 is table.first table.device table.limits table.passes))
@@ -40,7 +41,7 @@ draw_rings-requires-clause-log g c =
     let lines = c.args.config.now in
     let f = g.F.Flash.state c.args.flash.now in
     let table = c.table-table.ensures in
-    let p = plan-there lines.plans c.args.i c.requires.table in
+    let p = slice_get-some lines.plans c.args.i c.requires.table in
     let is = config-there lines.plans c.args.i p.0 c.table-table.result.now p.1 table.plan in
     log_still c.log-log.result f (g.F.Flash.state c.check_table.new.flash) c.check_table.ensures.looks
     (log-fits c.table-table.result.now c.log-log.result f
@@ -54,7 +55,7 @@ returns-in-Ok-draw_fault-clause-drawn g c = λ told.
     let f1 = g.F.Flash.state c.check_table.new.flash in
     let config = c.table-table.result.now in
     let table = c.table-table.ensures in
-    let p = plan-there lines.plans c.args.i c.requires.table in
+    let p = slice_get-some lines.plans c.args.i c.requires.table in
     let is = config-there lines.plans c.args.i p.0 config p.1 table.plan in
     let called : c.name-name.result ≡ p.0.name = subst (λ (o : Option Plan). IfSome o (λ plan. c.name-name.result ≡ plan.name)) p.1 c.name-name.ensures in
     record {
@@ -100,7 +101,7 @@ pub returns-in-Err-Flash-clause-drawing : goal.returns-in-Err-Flash-clause-drawi
 returns-in-Err-Flash-clause-drawing g c = refl
 
 pub returns-in-Err-Flash-clause-top : goal.returns-in-Err-Flash-clause-top
-returns-in-Err-Flash-clause-top g c = no-more _ _
+returns-in-Err-Flash-clause-top g c = le-add_right _ _
 
 pub returns-in-Err-Flash-clause-statuses : goal.returns-in-Err-Flash-clause-statuses
 returns-in-Err-Flash-clause-statuses g c = inr refl
@@ -115,7 +116,7 @@ pub returns-in-Err-NoMemory-clause-drawing : goal.returns-in-Err-NoMemory-clause
 returns-in-Err-NoMemory-clause-drawing g c = refl
 
 pub returns-in-Err-NoMemory-clause-top : goal.returns-in-Err-NoMemory-clause-top
-returns-in-Err-NoMemory-clause-top g c = no-more _ _
+returns-in-Err-NoMemory-clause-top g c = le-add_right _ _
 
 pub returns-in-Err-NoMemory-clause-statuses : goal.returns-in-Err-NoMemory-clause-statuses
 returns-in-Err-NoMemory-clause-statuses g c = inl refl
@@ -128,7 +129,7 @@ draw_rings-requires-clause-room g c =
     let lines = c.args.config.now in
     let f = g.F.Flash.state c.args.flash.now in
     let table = c.table-table.ensures in
-    let p = plan-there lines.plans c.args.i c.requires.table in
+    let p = slice_get-some lines.plans c.args.i c.requires.table in
     let is = config-there lines.plans c.args.i p.0 c.table-table.result.now p.1 table.plan in
     let whole = fits c.table-table.result.now f (lies-at lines f c.args.i p.0 c.table-table.result.now c.requires.over p.1 is table.first table.device table.limits table.passes) in
     c.requires.room ∙ ap (λ (x : Geometry). x.page) (sym whole.geometry)
@@ -144,7 +145,7 @@ returns-in-Err-clause-room g c =
     let lines = c.args.config.now in
     let f = g.F.Flash.state c.args.flash.now in
     let table = c.table-table.ensures in
-    let p = plan-there lines.plans c.args.i c.requires.table in
+    let p = slice_get-some lines.plans c.args.i c.requires.table in
     let is = config-there lines.plans c.args.i p.0 c.table-table.result.now p.1 table.plan in
     let whole = fits c.table-table.result.now f (lies-at lines f c.args.i p.0 c.table-table.result.now c.requires.over p.1 is table.first table.device table.limits table.passes) in
     c.draw_rings.ensures.room ∙ ap (λ (x : Geometry). x.page) whole.geometry
@@ -157,7 +158,7 @@ returns-in-Ok-draw_fault-clause-room g c =
     let lines = c.args.config.now in
     let f = g.F.Flash.state c.args.flash.now in
     let table = c.table-table.ensures in
-    let p = plan-there lines.plans c.args.i c.requires.table in
+    let p = slice_get-some lines.plans c.args.i c.requires.table in
     let is = config-there lines.plans c.args.i p.0 c.table-table.result.now p.1 table.plan in
     let whole = fits c.table-table.result.now f (lies-at lines f c.args.i p.0 c.table-table.result.now c.requires.over p.1 is table.first table.device table.limits table.passes) in
     c.draw_rings.ensures.room ∙ ap (λ (x : Geometry). x.page) whole.geometry
@@ -170,7 +171,7 @@ returns-in-Err-draw_fault-clause-room g c =
     let lines = c.args.config.now in
     let f = g.F.Flash.state c.args.flash.now in
     let table = c.table-table.ensures in
-    let p = plan-there lines.plans c.args.i c.requires.table in
+    let p = slice_get-some lines.plans c.args.i c.requires.table in
     let is = config-there lines.plans c.args.i p.0 c.table-table.result.now p.1 table.plan in
     let whole = fits c.table-table.result.now f (lies-at lines f c.args.i p.0 c.table-table.result.now c.requires.over p.1 is table.first table.device table.limits table.passes) in
     c.draw_rings.ensures.room ∙ ap (λ (x : Geometry). x.page) whole.geometry

@@ -1,8 +1,8 @@
 use Rattle.std.proofs.Common.{ℕ, Err, List, length, refl, ap, subst}
 use Rattle.fl_base.specs.Causes.{Appends, AppendsFront}
+use Rattle.fl_base.proofs.Appended.{appends-none}
 use Rattle.fl_image.proofs.Reach.{reach}
 use Rattle.fl_image_check.proofs.CheckEnds.{over-of}
-use Rattle.fl_image_check.proofs.ToldTables.{told-none}
 use Rattle.fl_map.specs.Canvas.{drawn_of}
 use Rattle.fl_map.specs.Drawn.{map_text}
 use Rattle.fl_map.specs.Map.{AreDrawn}
@@ -19,10 +19,10 @@ with_room-flash-requires-clause-reach g c =
     found.whole c.geometry-geometry.ensures.device c.blocks-blocks.ensures.exact found.size found.looks.content
 
 pub returns-in_default-clause-ends : goal.returns-in_default-clause-ends
-returns-in_default-clause-ends g c told = told-none (g.K.Sink.written c.args.out.now)
+returns-in_default-clause-ends g c told = appends-none (g.K.Sink.written c.args.out.now)
 
 pub returns-in_default-new-clause-ends : goal.returns-in_default-new-clause-ends
-returns-in_default-new-clause-ends g c told = told-none (g.K.Sink.written c.args.out.now)
+returns-in_default-new-clause-ends g c told = appends-none (g.K.Sink.written c.args.out.now)
 
 pub draw_image-drawn-requires : goal.draw_image-drawn-requires
 draw_image-drawn-requires g c = record {

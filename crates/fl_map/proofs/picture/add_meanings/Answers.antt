@@ -1,6 +1,6 @@
 use Rattle.std.proofs.Common.{◌++◌, codes}
+use Rattle.fl_base.proofs.Chains.{more}
 use Rattle.fl_map.specs.Svg.{meaning_text}
-use Rattle.fl_map.proofs.Chains.{more}
 use Rattle.fl_map.proofs.picture.add_meanings.Goals as goal
 
 pub returns : goal.returns

@@ -1,7 +1,7 @@
 use Rattle.std.proofs.Common.{ℕ, ◌+◌, List, ◌++◌, codes, decimal, refl, ◌∙◌, ap}
+use Rattle.fl_base.proofs.Chains.{more}
 use Rattle.fl_map.specs.Svg.{fault_words}
 use Rattle.fl_map.specs.Words.{state_word}
-use Rattle.fl_map.proofs.Chains.{more}
 use Rattle.fl_map.proofs.picture.add_title.Goals as goal
 
 pub returns : goal.returns

@@ -4,11 +4,11 @@ use Rattle.fl_mark.specs.Mark.{state_of_page}
 use Rattle.fl_mark.specs.declared.page_state.PageState.{PageState}
 use Rattle.fl_ring.specs.Place.{shape_of}
 use Rattle.fl_ring.specs.Ring.{room}
-use Rattle.fl_ring.proofs.ReadsInTurn.{same_state}
+use Rattle.fl_ring.proofs.ReadsInTurn.{same_state, fewer_reads}
 use Rattle.fl_frame.proofs.ReadsInTurn.{more_reads, same_page, told_still}
 use Rattle.fl_map.specs.Pages.{states_to, with_page}
 use Rattle.fl_map.specs.declared.note.Figures.{Figures}
-use Rattle.fl_map.proofs.Pages.{states_next, figures_next, is_there, reads_within}
+use Rattle.fl_map.proofs.Pages.{states_next, figures_next, is_there}
 use Rattle.fl_map.proofs.Ends.{none-if, none-on}
 use Rattle.fl_map.proofs.ring.read_pages.Goals as goal
 
@@ -20,8 +20,7 @@ look-requires-clause-exists g c =
 
 pub returns-in_err-push-clause-reads : goal.returns-in_err-push-clause-reads
 returns-in_err-push-clause-reads g c =
-    reads_within (g.F.Flash.state c.args.flash.now) (g.F.Flash.state c.look.new.flash) (c.loop-i.i + 1) (room (shape_of c.args.ring.now)) (omega (arith, c.loop-i-test.true, c.room-i-end.ensures.pages))
-    (more_reads (g.F.Flash.state c.args.flash.now) (g.F.Flash.state c.loop-i.flash) (g.F.Flash.state c.look.new.flash) c.loop-i.i 1 c.loop-i.invariant.reads c.look.ensures.reads)
+    fewer_reads (g.F.Flash.state c.args.flash.now) (g.F.Flash.state c.look.new.flash) (c.loop-i.i + 1) (room (shape_of c.args.ring.now)) (more_reads (g.F.Flash.state c.args.flash.now) (g.F.Flash.state c.loop-i.flash) (g.F.Flash.state c.look.new.flash) c.loop-i.i 1 c.loop-i.invariant.reads c.look.ensures.reads) (omega (arith, c.loop-i-test.true, c.room-i-end.ensures.pages))
 
 pub loop-i-preserved : goal.loop-i-preserved
 loop-i-preserved g c =
@@ -55,8 +54,7 @@ loop-i-preserved g c =
 
 pub returns-in_err-state-clause-reads : goal.returns-in_err-state-clause-reads
 returns-in_err-state-clause-reads g c =
-    reads_within (g.F.Flash.state c.args.flash.now) (g.F.Flash.state c.look.new.flash) (c.loop-i.i + 1) (room (shape_of c.args.ring.now)) (omega (arith, c.loop-i-test.true, c.room-i-end.ensures.pages))
-    (more_reads (g.F.Flash.state c.args.flash.now) (g.F.Flash.state c.loop-i.flash) (g.F.Flash.state c.look.new.flash) c.loop-i.i 1 c.loop-i.invariant.reads c.look.ensures.reads)
+    fewer_reads (g.F.Flash.state c.args.flash.now) (g.F.Flash.state c.look.new.flash) (c.loop-i.i + 1) (room (shape_of c.args.ring.now)) (more_reads (g.F.Flash.state c.args.flash.now) (g.F.Flash.state c.loop-i.flash) (g.F.Flash.state c.look.new.flash) c.loop-i.i 1 c.loop-i.invariant.reads c.look.ensures.reads) (omega (arith, c.loop-i-test.true, c.room-i-end.ensures.pages))
 
 pub returns-in_err-state-clause-room : goal.returns-in_err-state-clause-room
 returns-in_err-state-clause-room g c = c.look.ensures.room ∙ c.loop-i.invariant.room

@@ -4,8 +4,8 @@ use Rattle.fl_rules.proofs.LooksChangeNothing.{told_still}
 use Rattle.fl_check.proofs.PlacesStay.{fits_still, log_still}
 use Rattle.fl_map.specs.Canvas.{drawn_of}
 use Rattle.fl_map.proofs.Tables.{lies-there, log-there, rings-drawn}
-use Rattle.std.proofs.Common.{◌∙◌}
-use Rattle.fl_map.proofs.Ends.{first-top, last-top, no-more, none-on, ring-room, second-top, third-top}
+use Rattle.std.proofs.Common.{◌∙◌, le-add_right}
+use Rattle.fl_map.proofs.Ends.{first-top, last-top, none-on, ring-room, second-top, third-top}
 use Rattle.fl_map.proofs.table.draw_rings.Goals as goal
 
 pub draw_ring_if-requires-clause-fits : goal.draw_ring_if-requires-clause-fits
@@ -74,7 +74,7 @@ pub draw_ring-requires-clause-short : goal.draw_ring-requires-clause-short
 draw_ring-requires-clause-short g c = c.row_len.ensures.short
 
 pub draw_ring-requires-clause-top : goal.draw_ring-requires-clause-top
-draw_ring-requires-clause-top g c = ring-room _ _ c.requires.top (no-more _ _)
+draw_ring-requires-clause-top g c = ring-room _ _ c.requires.top (le-add_right _ _)
 
 pub returns-in_err-draw_ring-clause-looks : goal.returns-in_err-draw_ring-clause-looks
 returns-in_err-draw_ring-clause-looks g c = c.draw_ring.ensures.looks

@@ -1,4 +1,4 @@
-use Rattle.std.proofs.Common.{rules, ◌+◌, ◌-◌, ◌<◌, arith, refl, sym, ◌∙◌, subst}
+use Rattle.std.proofs.Common.{rules, ◌+◌, ◌-◌, ◌<◌, arith, refl, sym, ◌∙◌, subst, le_trans}
 use Rattle.std.proofs.lemmas.Result.{err_from_is_err_and, IfErr-weaker}
 use Rattle.fl_index.specs.Memory.{oldest_in, next_in}
 use Rattle.fl_index.specs.Standing.{StandsBelow}
@@ -9,7 +9,7 @@ use Rattle.fl_schema.specs.Schema.{layout_of}
 use Rattle.fl_parts.specs.Coming.{AreRemembered}
 use Rattle.fl_parts.specs.KeptSteps.{FailsReading, HasCome, HasComeBy, IsRefusedFirst, KnowsListed}
 use Rattle.fl_parts.proofs.Firsts.{remembers-more}
-use Rattle.fl_parts.proofs.IndexRounds.{all-listed, at-end, begin-is, data-last, data-more, data-within, few-rows, few-seen, few-taken, index-more, index-within, le-behind, le-by, le-on, le-two, leaves-read, leaves-then, lt-by, none-before, nothing-is, page-next, page-passed, pages-before, pages-behind}
+use Rattle.fl_parts.proofs.IndexRounds.{all-listed, at-end, begin-is, data-last, data-more, data-within, few-rows, few-seen, few-taken, index-more, index-within, le-behind, le-by, le-on, leaves-read, leaves-then, lt-by, none-before, nothing-is, page-next, page-passed, pages-before, pages-behind}
 use Rattle.fl_parts.proofs.KeptParts.{come-keeps, come-none, come-then, fails-then, keeps-none, keeps-then, may-still, some-places}
 use Rattle.fl_parts.proofs.ListedPages.{HasPassed, any-ok, below-read, in-order, index-lies-read, passed-none}
 use Rattle.fl_parts.proofs.SparedReads.{ok-two}
@@ -25,7 +25,7 @@ loop-page-init g c =
     let number = c.oldest-number.ensures in
     record {
       from = le-by _ _ begin;
-      most = le-two _ _ _ (le-by _ _ (sym begin)) (in-order bitmaps);
+      most = le_trans (le-by _ _ (sym begin)) (in-order bitmaps);
       come = come-none ring c.oldest-number.result _ flash c.args.known.now (subst (λ n. HasCome ring n c.args.known.now) (sym number) c.requires.come);
       leaves = record { same = record { geometry = refl; place = refl; bits = refl; full = refl }; running = refl; oldest = refl; next = refl; lies = c.requires.index_lies; reads = none_read flash _ };
       keeps = keeps-none c.args.counts.now c.args.index.now c.args.buf.now c.requires.may.none;
@@ -60,8 +60,8 @@ take_index_page-requires g c =
         (
           may.room,
           (
-            (le-two _ _ _ (le-by _ _ (sym inv.leaves.oldest)) inv.from, lt-by _ _ _ lt inv.leaves.next),
-            (le-two _ _ _ saw.come.come.low saw.come.come.high, (some-places may, few-rows c.args.ring.now c.in_ok-number.number c.see_pages.new.known saw.come.come small)),
+            (le_trans (le-by _ _ (sym inv.leaves.oldest)) inv.from, lt-by _ _ _ lt inv.leaves.next),
+            (le_trans saw.come.come.low saw.come.come.high, (some-places may, few-rows c.args.ring.now c.in_ok-number.number c.see_pages.new.known saw.come.come small)),
           ),
         ),
       ),

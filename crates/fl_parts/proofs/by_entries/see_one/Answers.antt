@@ -1,4 +1,4 @@
-use Rattle.std.proofs.Common.{rules, ◌≡◌, ◌-◌, Option, Some, sym, ◌∙◌, ap, arith, refl}
+use Rattle.std.proofs.Common.{rules, ◌≡◌, ◌-◌, Option, Some, sym, ◌∙◌, ap, arith, refl, le-add_right}
 use Rattle.std.specs.Prelude.{option_map}
 use Rattle.std.proofs.lemmas.Result.{err_from_is_err_and}
 use Rattle.fl_flash.specs.Flash.{page_at}
@@ -13,7 +13,7 @@ use Rattle.fl_parts.specs.Knowing.{IsUnlisted}
 use Rattle.fl_parts.specs.declared.mount_fault.MountFault.{MountFault}
 use Rattle.fl_parts.proofs.KeptParts.{at-place, err-page, err-refused, few-read, few-rest, one-listed, one-read, some-places}
 use Rattle.fl_parts.proofs.ListedPages.{any-ok}
-use Rattle.fl_parts.proofs.Untouched.{at-most, no-success}
+use Rattle.fl_parts.proofs.Untouched.{no-success}
 use Rattle.fl_parts.proofs.by_entries.see_one.Goals as goal
 
 pub see_entry-requires : goal.see_entry-requires
@@ -23,7 +23,7 @@ pub returns-in-Some-clause-knows : goal.returns-in-Some-clause-knows
 returns-in-Some-clause-knows g c = λ told error t k n rows is tells h.
     let entry_is = tells ∙ (ap (option_map full_view) (sym c.listed.ensures) ∙ ap (λ (o : Option code.Full). option_map full_view o) c.in-Some.is) in
     let saw = c.see_entry.ensures.knows error t k n h is entry_is in
-    (saw.0, err-page (λ (e : MountFault). mount_fault t ≡ Some e) c.see_entry.result saw.1, at-most _ _)
+    (saw.0, err-page (λ (e : MountFault). mount_fault t ≡ Some e) c.see_entry.result saw.1, le-add_right _ _)
 
 pub returns-in-Some-clause-come : goal.returns-in-Some-clause-come
 returns-in-Some-clause-come g c =

@@ -1,12 +1,12 @@
 use Rattle.std.proofs.Common.{◌≡◌, ◌+◌, ◌-◌, ◌<◌, ◌≤◌, ℕ, max, min, Some, refl, sym, ◌∙◌, ap, subst, arith}
 use Rattle.std.proofs.Math.Nat.{le_refl}
 use Rattle.std.proofs.lemmas.Result.{err_from_is_err_and, IfErr-weaker, IfOk-weaker}
+use Rattle.fl_index.proofs.MountCalls.{same-entries}
 use Rattle.fl_parts.specs.ByEntries.{mount_fault}
 use Rattle.fl_parts.specs.Faults.{is_refused}
 use Rattle.fl_parts.specs.KeptSteps.{KnowsTaken}
 use Rattle.fl_parts.specs.declared.mount_fault.MountFault.{MountFault}
 use Rattle.fl_parts.proofs.IndexTaken.{bad-keeps, bad-only, entry-refused, good-taken, later-page, low-refused, low-taken}
-use Rattle.fl_parts.proofs.ListedPages.{per-same}
 use Rattle.fl_parts.proofs.Untouched.{no-success}
 use Rattle.fl_parts.proofs.by_entries.take_listing.Goals as goal
 
@@ -22,7 +22,7 @@ above-is a first end le is = omega (arith, le, is)
 
 pub returns-then-from-end-clause-knows : goal.returns-then-from-end-clause-knows
 returns-then-from-end-clause-knows g c = λ error layout t k n f before next same loaded h.
-    let all = c.capacity-capacity.ensures.exact ∙ per-same before c.args.bitmaps.now same in
+    let all = c.capacity-capacity.ensures.exact ∙ same-entries before c.args.bitmaps.now same in
     let low = low-is _ _ _ c.if-from-end.true c.from.ensures in (
       IfOk-weaker c.end_after_bad.result _ (λ after. KnowsTaken error t k n c.args.end after c.end_after_bad.new.known c.args.counts.now c.args.index.now c.unload.new.self)
           (λ after is. low-taken error t k n c.args.page c.args.end layout c.args.limit c.args.ring.now f before c.args.known.now c.args.counts.now c.args.index.now next h c.args.bitmaps.now c.args.first loaded c.capacity-capacity.result all low
@@ -36,7 +36,7 @@ pub returns-in_err-settle-clause-knows : goal.returns-in_err-settle-clause-knows
 returns-in_err-settle-clause-knows g c = λ error layout t k n f before next same loaded h.
     let p = err_from_is_err_and c.from_residual.result c.from_residual.ensures.1 in
     let bad = c.in-Some.ensures.first in
-    let per = c.capacity-capacity.ensures.exact ∙ per-same before c.args.bitmaps.now same in
+    let per = c.capacity-capacity.ensures.exact ∙ same-entries before c.args.bitmaps.now same in
     let after = sum-is _ _ _ _ _ _ refl c.from-2.ensures c.from-3.ensures per in
     let small = subst (λ n. n < 4294967296) c.next_number.ensures c.next_number.type_inv in
     let from = c.max.ensures ∙ ap (λ n. max c.args.first n) c.oldest.ensures in
@@ -49,7 +49,7 @@ returns-in_err-settle-clause-knows g c = λ error layout t k n f before next sam
 pub returns-in-Some-clause-knows : goal.returns-in-Some-clause-knows
 returns-in-Some-clause-knows g c = λ error layout t k n f before next same loaded h.
     let bad = c.in-Some.ensures.first in
-    let per = c.capacity-capacity.ensures.exact ∙ per-same before c.args.bitmaps.now same in
+    let per = c.capacity-capacity.ensures.exact ∙ same-entries before c.args.bitmaps.now same in
     let after = sum-is _ _ _ _ _ _ refl c.from-2.ensures c.from-3.ensures per in
     let small = subst (λ n. n < 4294967296) c.next_number.ensures c.next_number.type_inv in
     let from = c.max.ensures ∙ ap (λ n. max c.args.first n) c.oldest.ensures in
@@ -65,7 +65,7 @@ returns-in-Some-clause-knows g c = λ error layout t k n f before next same load
 
 pub returns-clause-knows : goal.returns-clause-knows
 returns-clause-knows g c = λ error layout t k n f before next same loaded h.
-    let per = c.capacity-capacity.ensures.exact ∙ per-same before c.args.bitmaps.now same in
+    let per = c.capacity-capacity.ensures.exact ∙ same-entries before c.args.bitmaps.now same in
     let after = sum-is _ _ _ _ _ _ refl c.from-2.ensures c.from-3.ensures per in
     let small = subst (λ n. n < 4294967296) c.next_number.ensures c.next_number.type_inv in
     let from = c.max.ensures ∙ ap (λ n. max c.args.first n) c.oldest.ensures in

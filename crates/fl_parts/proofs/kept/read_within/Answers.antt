@@ -1,4 +1,4 @@
-use Rattle.std.proofs.Common.{rules, ◌-◌, arith}
+use Rattle.std.proofs.Common.{rules, arith}
 use Rattle.std.proofs.lemmas.Result.{err_from_is_err_and}
 use Rattle.fl_find.specs.Index.{error_in}
 use Rattle.fl_frame.proofs.ReadsInTurn.{told_still}

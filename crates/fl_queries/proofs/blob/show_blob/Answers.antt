@@ -2,11 +2,12 @@ use Rattle.std.proofs.Common.{◌∙◌, ℕ, List, inr, refl, subst}
 use Rattle.fl_frame.proofs.ContentsInTurn.{OnlyReads-then, OnlyReads-reads}
 use Rattle.fl_script.specs.Written.{Written}
 use Rattle.fl_words.specs.Reply.{Absent, NoBlob}
+use Rattle.fl_table.proofs.Finds.{lookup-caused}
 use Rattle.fl_store.proofs.TablesOnlyRead.{stands-read, tells-read}
 use Rattle.fl_queries.specs.BlobSays.{AnswersBlob, IsBadIn, IsBadNamed, MayBeBadFor, TellsBlob}
 use Rattle.fl_queries.proofs.AnyBlobs.{says-later, says-none_read, says-one}
 use Rattle.fl_queries.proofs.BadBlobs.{answers-held, looked-bad, named-bad}
-use Rattle.fl_queries.proofs.BlobShows.{lookup-caused, shows-absent, shows-none, shows-said, shows-unread, content-same}
+use Rattle.fl_queries.proofs.BlobShows.{shows-absent, shows-none, shows-said, shows-unread, content-same}
 use Rattle.fl_queries.proofs.blob.show_blob.Goals as goal
 
 pub returns-in-Ok-NoRecord-clause-shows : goal.returns-in-Ok-NoRecord-clause-shows

@@ -1,26 +1,22 @@
-use Rattle.std.proofs.Common.{◌≡◌, ℕ, zero, suc, ◌≤◌, Bool, true, false, Result, Ok, Err, List, [], ◌++◌, append_assoc, refl, sym, ◌∙◌, ap, subst, arith, append-nil, le_trans}
+use Rattle.std.proofs.Common.{◌≡◌, ℕ, Bool, true, false, Result, Ok, Err, List, [], ◌++◌, append_assoc, refl, sym, ◌∙◌, ap, subst, arith, append-nil, le_trans, pos_of_ne-zero}
 use Rattle.std.proofs.lemmas.Result.{err_from_is_err_and}
 use Rattle.std.proofs.lemmas.Bool.{false≢true}
 use Rattle.fl_base.specs.Causes.{Appends, AppendsFront}
+use Rattle.fl_base.proofs.Appended.{appends-none}
+use Rattle.fl_base.proofs.Risen.{rose-back}
 use Rattle.fl_page.proofs.ReadsInTurn.{IsCaused-later}
 use Rattle.fl_frame.proofs.ContentsInTurn.{OnlyReads-same, OnlyReads-then}
 use Rattle.fl_page.specs.declared.fault.ReadFault.{ReadFault}
 use Rattle.fl_var.specs.Reading.{bytes_left, chunk_of, count_left}
 use Rattle.fl_words.specs.Reply.{hex_text}
-use Rattle.fl_store.proofs.Appends.{appends-none}
 use Rattle.fl_queries.proofs.AnyBlobs.{digits-into, digits-more}
 use Rattle.fl_queries.proofs.BadBlobs.{ahead-held, none-behind}
 use Rattle.fl_queries.proofs.BlobLines.{gave-none, gave-chunk, gave-failed, gave-all, gave-unread}
-use Rattle.fl_store.proofs.CallsInTurn.{rose-back}
 use Rattle.fl_queries.proofs.blob_line.give_digits.Goals as goal
 
 -- a step that failed wasn't at the end
 not_done : {e : ReadFault} → ◌≡◌ {A = Result Bool ReadFault} (Err e) (Ok false) → ⊥
 not_done e = cc
-
-some_left : (n : ℕ) → (n ≡ 0 → ⊥) → 1 ≤ n
-some_left zero h = absurd (h refl)
-some_left (suc n) h = omega arith
 
 pub loop-reader-init : goal.loop-reader-init
 loop-reader-init g c = record {
@@ -50,7 +46,7 @@ returns-in_err-step-clause-gives g c = λ ready whole turned.
     let p = err_from_is_err_and c.from_residual.result c.from_residual.ensures.1 in
     rw (p.1, p.2) (gave-unread c.args.reader.now c.loop-reader.reader c.step.new.self (g.F.Flash.state c.args.flash.now) (g.F.Flash.state c.loop-reader.flash) (g.F.Flash.state c.step.new.flash)
     (g.K.Sink.written c.args.out.now) (g.K.Sink.written c.loop-reader.out) so_far c.in_err-step.field-0.0 (c.in_err-step.ensures.whole so_far.ready so_far.whole).0 turned
-    (some_left (count_left c.loop-reader.reader) (λ none. not_done (c.in_err-step.ensures.done none).0)) (λ here. false≢true (c.in_err-step.ensures.held here).0))
+    (pos_of_ne-zero {n = count_left c.loop-reader.reader} (λ none. not_done (c.in_err-step.ensures.done none).0)) (λ here. false≢true (c.in_err-step.ensures.held here).0))
 
 pub loop-reader-preserved : goal.loop-reader-preserved
 loop-reader-preserved g c =
@@ -127,7 +123,7 @@ returns-in_err-step-clause-digits g c =
     rw (p.1, p.2) (
       (inv.digits.0, inv.digits.1),
       ahead-held (g.F.Flash.state c.args.flash.now) (g.F.Flash.state c.loop-reader.flash) c.args.reader.now c.loop-reader.reader c.in_err-step.field-0.0 inv.ready inv.ahead
-          (some_left (count_left c.loop-reader.reader) (λ none. not_done (c.in_err-step.ensures.done none).0)) (λ here. false≢true (c.in_err-step.ensures.held here).0) c.in_err-step.ensures.bad,
+          (pos_of_ne-zero {n = count_left c.loop-reader.reader} (λ none. not_done (c.in_err-step.ensures.done none).0)) (λ here. false≢true (c.in_err-step.ensures.held here).0) c.in_err-step.ensures.bad,
     )
 
 pub returns-in_err-write_digits-clause-digits : goal.returns-in_err-write_digits-clause-digits

@@ -1,15 +1,16 @@
 use Rattle.std.proofs.Common.{◌≡◌, ℕ, codes, Err, List, [], ◌∷◌, ◌++◌, subst, ◌+◌, ◌≤◌, refl, arith}
 use Rattle.std.proofs.lemmas.Result.{err_from_is_err_and}
 use Rattle.std.proofs.lemmas.Bool.{false≢true}
+use Rattle.fl_base.proofs.Appended.{front-more}
 use Rattle.fl_script.specs.Written.{Written}
+use Rattle.fl_script.proofs.SinkPieces.{written-behind}
 use Rattle.fl_var.specs.Reading.{bytes_left}
 use Rattle.fl_words.specs.Reply.{hex_text, text}
 use Rattle.fl_queries.specs.BlobLine.{read_reply}
 use Rattle.fl_queries.specs.BlobSays.{MayBeBadAhead, TellsLeft}
 use Rattle.fl_queries.specs.declared.listing.ListFault.TheVariants.{Sink, Read}
-use Rattle.fl_store.proofs.Appends.{front-more}
 use Rattle.fl_queries.proofs.AnyBlobs.{says-begun, says-cut, says-parts, says-sunk}
-use Rattle.fl_queries.proofs.BlobLines.{written-after, shows-line, shows-unread, shows-unended, rose-with}
+use Rattle.fl_queries.proofs.BlobLines.{shows-line, shows-unread, shows-unended, rose-with}
 use Rattle.fl_frame.proofs.ContentsInTurn.{OnlyReads-same}
 use Rattle.fl_queries.proofs.blob_line.show_bytes.Goals as goal
 
@@ -28,8 +29,8 @@ returns-in-Ok-clause-shows g c = λ ready whole turned on.
     let bytes = bytes_left c.args.reader.now (g.F.Flash.state c.args.flash.now) in
     let given = rw c.in-Ok.is at (c.give_digits.ensures.gives ready whole turned) in
     shows-line bytes (g.K.Sink.written c.args.out.now) _ _ _ _ _ _
-    (written-after (g.K.Sink.written c.args.out.now) (g.K.Sink.written c.write_reply.new.out) _ _ (codes "bytes ") (hex_text bytes ++ 10 ∷ []) c.in_ok-write_reply.ensures.text
-    (written-after (g.K.Sink.written c.write_reply.new.out) (g.K.Sink.written c.give_digits.new.out) _ _ (hex_text bytes) (10 ∷ []) given c.write_reply-in-Ok.ensures.text))
+    (written-behind (g.K.Sink.written c.args.out.now) (g.K.Sink.written c.write_reply.new.out) _ (codes "bytes ") (hex_text bytes ++ 10 ∷ []) _ c.in_ok-write_reply.ensures.text
+    (written-behind (g.K.Sink.written c.write_reply.new.out) (g.K.Sink.written c.give_digits.new.out) _ (hex_text bytes) (10 ∷ []) _ given c.write_reply-in-Ok.ensures.text))
 
 pub returns-in-Err-Sink-clause-shows : goal.returns-in-Err-Sink-clause-shows
 returns-in-Err-Sink-clause-shows g c = λ ready whole turned on.
@@ -37,7 +38,7 @@ returns-in-Err-Sink-clause-shows g c = λ ready whole turned on.
     let sunk : c.in-Err-Sink.field-0 ≡ Sink c.in-Err-Sink.failed = c.in-Err-Sink.field-0-is in
     let given = rw (c.in-Err-Sink.is, sunk) at (c.give_digits.ensures.gives ready whole turned) in
     shows-line bytes (g.K.Sink.written c.args.out.now) _ _ _ _ _ (Err c.in-Err-Sink.failed)
-    (written-after (g.K.Sink.written c.args.out.now) (g.K.Sink.written c.write_reply.new.out) _ (Err c.in-Err-Sink.failed) (codes "bytes ") (hex_text bytes ++ 10 ∷ []) c.in_ok-write_reply.ensures.text
+    (written-behind (g.K.Sink.written c.args.out.now) (g.K.Sink.written c.write_reply.new.out) _ (codes "bytes ") (hex_text bytes ++ 10 ∷ []) (Err c.in-Err-Sink.failed) c.in_ok-write_reply.ensures.text
     (front-more (g.K.Sink.written c.write_reply.new.out) (g.K.Sink.written c.give_digits.new.out) (hex_text bytes) (10 ∷ []) given))
 
 pub returns-in_err-write_reply-in-Err-Read-clause-shows : goal.returns-in_err-write_reply-in-Err-Read-clause-shows

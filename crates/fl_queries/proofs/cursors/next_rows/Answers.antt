@@ -1,5 +1,6 @@
 use Rattle.std.proofs.Common.{rules, ◌∙◌, List, ℕ, ◌≤◌, Result, Ok, Err, length, map, refl, sym, ap, subst, le_trans}
 use Rattle.fl_base.specs.Causes.{HasCause}
+use Rattle.fl_base.proofs.Risen.{rose-back}
 use Rattle.fl_cursor.specs.Asked.{asked_by}
 use Rattle.fl_frame.specs.Contents.{contents_of}
 use Rattle.fl_model.specs.Query as query
@@ -13,12 +14,12 @@ use Rattle.fl_queries.specs.Rows.{row_reply}
 use Rattle.fl_queries.specs.RowsGiven.{MovesOver}
 use Rattle.fl_queries.proofs.AnyLines.{given-as, list-ends, list-fails}
 use Rattle.fl_queries.proofs.NextRows.{nexts-given, nexts-fault, reads-within}
-use Rattle.fl_queries.proofs.RowLines.{blobs-as, lines-stored}
+use Rattle.fl_queries.proofs.RowLines.{lines-stored}
 use Rattle.fl_queries.proofs.RowsInTurn.{moves-by}
 use Rattle.fl_queries.proofs.Resumed.{is-standing, left-there, nexts-by}
-use Rattle.fl_store.proofs.CallsInTurn.{rose-back}
 use Rattle.fl_flash.specs.Buffer.{BufferState}
 use Rattle.fl_table.specs.Look.{layout_in}
+use Rattle.fl_table.proofs.PlannedLayout.{blobs-as}
 use Rattle.fl_queries.proofs.cursors.next_rows.Goals as goal
 
 -- the cause of an error is one from an earlier count on
@@ -33,7 +34,7 @@ returns-in-Ok-clause-nexts g c = λ first plan t tells on stands.
     let limit = c.resume-cursor.ensures.limit (g.F.Flash.state c.args.flash.now) first plan t tells reaches c.requires.lies stands in
     let within = reads-within plan t c.resume-cursor.result (contents_of (g.F.Flash.state c.args.flash.now)) _ _ c.resume-cursor.ensures.mark limit (c.list_lines-given.ensures.reads told).within in
     let lines = ap (map (row_reply c.form_of-form.result.blobs)) (left-there c.args.table.now (g.F.Flash.state c.args.flash.now) first plan t tells reaches c.requires.lies stands c.resume-cursor.result c.resume-cursor.ensures.table)
-    ∙ lines-stored plan c.form_of-form.result.blobs (query.left_of (asked_by (mark_of c.resume-cursor.result)) t.entries) (c.form_of-form.ensures.blobs ∙ blobs-as c.args.table.now (g.F.Flash.state c.args.flash.now) first plan t stands) in
+    ∙ lines-stored plan c.form_of-form.result.blobs (query.left_of (asked_by (mark_of c.resume-cursor.result)) t.entries) (c.form_of-form.ensures.blobs ∙ blobs-as c.args.table.now first plan stands.planned) in
     nexts-by c.resume-cursor.ensures.mark (sym c.park.ensures.mark)
     (nexts-given plan c.form_of-form.result.blobs t c.args.count (mark_of c.resume-cursor.result) (mark_of c.list_lines-given.new.lines) (IsTold c.resume-cursor.result (contents_of (g.F.Flash.state c.args.flash.now))) (MayBeBad (table_of c.resume-cursor.result) (contents_of (g.F.Flash.state c.args.flash.now))) (map (row_reply c.form_of-form.result.blobs) (left_of c.resume-cursor.result (contents_of (g.F.Flash.state c.args.flash.now)))) _ (g.K.Sink.written c.list_lines-given.new.out) _ (g.F.Flash.state c.args.flash.now) (g.F.Flash.state c.list_lines-given.new.flash) _ told lines within
     c.in-Ok.given c.in-Ok.ensures.lines (c.in-Ok.ensures.whole told) (subst (λ (l : List ℕ). Written (g.K.Sink.written c.list_lines-given.new.out) (g.K.Sink.written c.write_reply.new.out) c.write_reply.result l) c.ending.ensures c.write_reply.ensures.text))
@@ -62,7 +63,7 @@ returns-in-Err-clause-nexts g c = λ first plan t tells on stands.
     let limit = c.resume-cursor.ensures.limit (g.F.Flash.state c.args.flash.now) first plan t tells reaches c.requires.lies stands in
     let within = reads-within plan t c.resume-cursor.result (contents_of (g.F.Flash.state c.args.flash.now)) _ _ c.resume-cursor.ensures.mark limit (c.list_lines-given.ensures.reads told).within in
     let lines = ap (map (row_reply c.form_of-form.result.blobs)) (left-there c.args.table.now (g.F.Flash.state c.args.flash.now) first plan t tells reaches c.requires.lies stands c.resume-cursor.result c.resume-cursor.ensures.table)
-    ∙ lines-stored plan c.form_of-form.result.blobs (query.left_of (asked_by (mark_of c.resume-cursor.result)) t.entries) (c.form_of-form.ensures.blobs ∙ blobs-as c.args.table.now (g.F.Flash.state c.args.flash.now) first plan t stands) in
+    ∙ lines-stored plan c.form_of-form.result.blobs (query.left_of (asked_by (mark_of c.resume-cursor.result)) t.entries) (c.form_of-form.ensures.blobs ∙ blobs-as c.args.table.now first plan stands.planned) in
     nexts-by c.resume-cursor.ensures.mark (sym c.park.ensures.mark)
     (nexts-fault plan c.form_of-form.result.blobs t c.args.count (mark_of c.resume-cursor.result) (mark_of c.list_lines-given.new.lines) (IsTold c.resume-cursor.result (contents_of (g.F.Flash.state c.args.flash.now))) (MayBeBad (table_of c.resume-cursor.result) (contents_of (g.F.Flash.state c.args.flash.now))) (map (row_reply c.form_of-form.result.blobs) (left_of c.resume-cursor.result (contents_of (g.F.Flash.state c.args.flash.now)))) _ (g.K.Sink.written c.list_lines-given.new.out) _ (g.F.Flash.state c.args.flash.now) (g.F.Flash.state c.list_lines-given.new.flash) _ told lines within
     c.in-Err.fault c.in-Err.ensures.lines (c.in-Err.ensures.good told) on c.in-Err.ensures.unread c.write_fault.ensures.says)

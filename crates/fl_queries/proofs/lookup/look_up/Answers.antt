@@ -1,9 +1,9 @@
 use Rattle.std.proofs.Common.{◌∙◌, refl}
 use Rattle.fl_schema.specs.Schema.{row_of}
 use Rattle.fl_queries.proofs.Lookups.{looks-absent, looks-found, looks-unread, tells-row}
-use Rattle.fl_queries.proofs.RowLines.{blobs-as}
 use Rattle.fl_queries.specs.Rows.{row_reply}
 use Rattle.fl_words.specs.Reply as reply
+use Rattle.fl_table.proofs.PlannedLayout.{blobs-as}
 use Rattle.fl_queries.proofs.lookup.look_up.Goals as goal
 
 pub returns-in-Ok-None-clause-looks : goal.returns-in-Ok-None-clause-looks
@@ -14,7 +14,7 @@ returns-in-Ok-None-clause-looks g c = λ first plan t told on stands.
 pub returns-in-Ok-Some-clause-looks : goal.returns-in-Ok-Some-clause-looks
 returns-in-Ok-Some-clause-looks g c = λ first plan t told on stands.
     let found = rw c.in-Ok-Some.field-0-is at (c.in-Ok-Some.ensures.find.finds first plan t told stands) in
-    looks-found plan t c.args.key _ _ _ _ c.find.new.buf c.in-Ok-Some.place (row_of c.row_at.result) c.form_of-form.result.blobs _ (c.form_of-form.ensures.blobs ∙ blobs-as c.args.table.now _ first plan t stands) stands.facts found (c.in-Ok-Some.ensures.find.reads first plan t told stands) found.entry (c.row_at.ensures.stands _ first plan t stands) c.line_of.ensures
+    looks-found plan t c.args.key _ _ _ _ c.find.new.buf c.in-Ok-Some.place (row_of c.row_at.result) c.form_of-form.result.blobs _ (c.form_of-form.ensures.blobs ∙ blobs-as c.args.table.now first plan stands.planned) stands.facts found (c.in-Ok-Some.ensures.find.reads first plan t told stands) found.entry (c.row_at.ensures.stands _ first plan t stands) c.line_of.ensures
 
 pub returns-in-Err-Flash-clause-looks : goal.returns-in-Err-Flash-clause-looks
 returns-in-Err-Flash-clause-looks g c = λ first plan t told on stands.

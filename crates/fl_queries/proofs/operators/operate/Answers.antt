@@ -13,6 +13,7 @@ use Rattle.fl_model.specs.Operators.{Group, aggregate, column_of, project}
 use Rattle.fl_model.specs.Query.{selected}
 use Rattle.fl_model.specs.Record.{Record}
 use Rattle.fl_model.specs.Row.{Row}
+use Rattle.fl_model.proofs.Lists.{length-filter-le}
 use Rattle.fl_ops.specs.Columns.{Comparison, HasColumn, record_of, records_of, row_passes}
 use Rattle.fl_ops.specs.Groups.{groups_left}
 use Rattle.fl_ops.specs.Project.{columns_of}
@@ -20,6 +21,7 @@ use Rattle.fl_ops.specs.Select.{comparison_of, input_of}
 use Rattle.fl_store.proofs.TablesOnlyRead.{lies-read}
 use Rattle.fl_table.specs.Look.{layout_in}
 use Rattle.fl_table.specs.declared.table.Table.{Table}
+use Rattle.fl_table.proofs.PlannedLayout.{blobs-as}
 use Rattle.fl_words.specs.Reply.{Fields}
 use Rattle.fl_queries.specs.Asked.{asked_records, lacked_column}
 use Rattle.fl_queries.specs.ListSays.{EndsAt, IsFields, IsGroup, ListSays}
@@ -28,13 +30,11 @@ use Rattle.fl_queries.specs.Rising.{AreRising, IsRow}
 use Rattle.fl_queries.specs.Rows.{row_reply}
 use Rattle.fl_queries.specs.declared.operators.Operator.{Operator}
 use Rattle.fl_queries.proofs.AnyLines.{lists-as, lists-range}
-use Rattle.fl_queries.proofs.Few.{length-filter}
 use Rattle.fl_queries.proofs.Fields.{lacks-none}
 use Rattle.fl_queries.proofs.GroupLines.{grouped-records, groups-fewer}
 use Rattle.fl_queries.proofs.OperatorLines.{first-same, projected-fields, second-same, selected-lines}
 use Rattle.fl_queries.proofs.Ranged.{counted-ranged, ranged}
 use Rattle.fl_queries.proofs.RisingLines.{are-rising}
-use Rattle.fl_queries.proofs.RowLines.{blobs-as}
 use Rattle.fl_queries.proofs.operators.operate.Goals as goal
 
 pub begin-cursor-requires : goal.begin-cursor-requires
@@ -63,10 +63,10 @@ returns-in-Select-clause-counted g c = λ first plan t tells on stands.
     (c.new-rows.ensures.comparison ∙ ap (λ (v : ℤ). record { column = c.in-Select.comparison.column; op = c.in-Select.comparison.op; value = v }) (to_z-of_z w64 c.in-Select.comparison.value fits)) in
     let lines = ap (λ (k : Comparison). map (row_reply c.form_of-form.result.blobs) (filter (row_passes k) (left_of c.new-rows.result.rows (contents_of (g.F.Flash.state c.args.flash.now))))) asked
     ∙ (ap (λ (xs : List Row). map (row_reply c.form_of-form.result.blobs) (filter (row_passes (record { column = c.in-Select.comparison.column; op = c.in-Select.comparison.op; value = c.in-Select.comparison.value })) xs)) over.left
-    ∙ selected-lines plan c.form_of-form.result.blobs (record { column = c.in-Select.comparison.column; op = c.in-Select.comparison.op; value = c.in-Select.comparison.value }) (selected c.args.range None t.entries) (c.form_of-form.ensures.blobs ∙ blobs-as c.args.table.now (g.F.Flash.state c.args.flash.now) first plan t stands)) in
+    ∙ selected-lines plan c.form_of-form.result.blobs (record { column = c.in-Select.comparison.column; op = c.in-Select.comparison.op; value = c.in-Select.comparison.value }) (selected c.args.range None t.entries) (c.form_of-form.ensures.blobs ∙ blobs-as c.args.table.now first plan stands.planned)) in
     let rows = left_of c.new-rows.result.rows (contents_of (g.F.Flash.state c.args.flash.now)) in
     let few : length (map (row_reply c.form_of-form.result.blobs) (filter (row_passes (comparison_of c.new-rows.result)) (left_of c.new-rows.result.rows (contents_of (g.F.Flash.state c.args.flash.now))))) < 2 ^ 64 - 1 =
-    omega (arith, over.few, length-filter (row_passes (comparison_of c.new-rows.result)) rows, length-map (filter (row_passes (comparison_of c.new-rows.result)) (left_of c.new-rows.result.rows (contents_of (g.F.Flash.state c.args.flash.now)))) (row_reply c.form_of-form.result.blobs)) in
+    omega (arith, over.few, length-filter-le (row_passes (comparison_of c.new-rows.result)) rows, length-map (filter (row_passes (comparison_of c.new-rows.result)) (left_of c.new-rows.result.rows (contents_of (g.F.Flash.state c.args.flash.now)))) (row_reply c.form_of-form.result.blobs)) in
     rw c.in-Select.is (counted-ranged over _ _ lines (c.answer_lines.ensures.counted over.told few on))
 
 pub returns-in-Select-clause-says : goal.returns-in-Select-clause-says

@@ -1,5 +1,6 @@
 use Rattle.std.proofs.Common.{◌≡◌, ◌+◌, ◌≤◌, [], ◌∷◌, refl, sym, ◌∙◌, subst, arith, le_trans}
 use Rattle.std.proofs.lemmas.Result.{err_from_is_err_and}
+use Rattle.fl_base.proofs.Risen.{rose-back}
 use Rattle.fl_frame.specs.Contents.{Contents, contents_of}
 use Rattle.fl_frame.proofs.ContentsInTurn.{OnlyReads-same, OnlyReads-then, OnlyReads-reads}
 use Rattle.fl_page.proofs.ReadsInTurn.{IsCaused-later}
@@ -7,7 +8,6 @@ use Rattle.fl_queries.specs.Lines.{AreMade}
 use Rattle.fl_queries.specs.ListSays.{WroteLines}
 use Rattle.fl_queries.proofs.AnyLines.{bad-by, wrote-as, wrote-into, wrote-more, wrote-none}
 use Rattle.fl_queries.proofs.LinesListed.{SoFar, made-as, no-bad, none-behind, one-behind}
-use Rattle.fl_store.proofs.CallsInTurn.{rose-back}
 use Rattle.fl_queries.proofs.reply_lines.list_lines.Goals as goal
 
 pub loop-given-init : goal.loop-given-init

@@ -18,9 +18,10 @@ use Rattle.fl_queries.proofs.AnyLines.{given-as, list-ended}
 use Rattle.fl_queries.proofs.CountedLines.{counted-listed}
 use Rattle.fl_queries.proofs.OperatorLines.{first-same, second-same}
 use Rattle.fl_queries.proofs.Ranged.{counted-ranged, ranged}
-use Rattle.fl_queries.proofs.RowLines.{blobs-as, lines-stored}
+use Rattle.fl_queries.proofs.RowLines.{lines-stored}
 use Rattle.fl_queries.proofs.RowsInTurn.{rows-by}
 use Rattle.fl_table.specs.Look.{layout_in}
+use Rattle.fl_table.proofs.PlannedLayout.{blobs-as}
 use Rattle.fl_queries.proofs.scans.list_rows.Goals as goal
 
 pub returns-clause-cause : goal.returns-clause-cause
@@ -39,7 +40,7 @@ pub returns-clause-scans : goal.returns-clause-scans
 returns-clause-scans g c = λ first plan t tells on stands.
     let over = ranged c.begin-cursor.result c.begin-cursor.result c.args.table.now (g.F.Flash.state c.args.flash.now) first plan t c.args.range c.args.span refl tells (g.met.F.Flash.reaches c.args.flash.now) c.requires.lies stands c.begin-cursor.ensures.told c.begin-cursor.ensures.left c.begin-cursor.ensures.limit c.begin-cursor.ensures.least in
     let lines : map (row_reply c.form_of-form.result.blobs) (left_of c.begin-cursor.result (contents_of (g.F.Flash.state c.args.flash.now))) ≡ rows_of plan (selected c.args.range c.args.span t.entries) =
-    ap (map (row_reply c.form_of-form.result.blobs)) over.left ∙ lines-stored plan c.form_of-form.result.blobs (selected c.args.range c.args.span t.entries) (c.form_of-form.ensures.blobs ∙ blobs-as c.args.table.now (g.F.Flash.state c.args.flash.now) first plan t stands) in
+    ap (map (row_reply c.form_of-form.result.blobs)) over.left ∙ lines-stored plan c.form_of-form.result.blobs (selected c.args.range c.args.span t.entries) (c.form_of-form.ensures.blobs ∙ blobs-as c.args.table.now first plan stands.planned) in
     let few : length (map (row_reply c.form_of-form.result.blobs) (left_of c.begin-cursor.result (contents_of (g.F.Flash.state c.args.flash.now)))) < 2 ^ 64 - 1 =
     omega (arith, length-map (left_of c.begin-cursor.result (contents_of (g.F.Flash.state c.args.flash.now))) (row_reply c.form_of-form.result.blobs), over.few) in
     counted-ranged over _ _ lines

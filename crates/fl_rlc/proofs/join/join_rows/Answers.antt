@@ -1,9 +1,9 @@
-use Rattle.std.proofs.Common.{◌≡◌, ℕ, suc, ◌+◌, ◌≤◌, Option, Some, None, IsSomeAnd, List, [], ◌∷◌, ◌++◌, zero, length, map, take, drop, refl, sym, ◌∙◌, ap, subst, arith}
+use Rattle.std.proofs.Common.{◌≡◌, ℕ, ◌≤◌, Option, Some, None, IsSomeAnd, List, length, map, take, drop, refl, sym, ◌∙◌, ap, subst, arith}
 use Rattle.std.specs.List.{slice_get}
 use Rattle.std.proofs.Math.IntN.{ℤ}
 use Rattle.std.proofs.Math.Seq.{take-length}
 use Rattle.std.proofs.lemmas.List.{drop_all, length-map}
-use Rattle.std.proofs.lemmas.Option.{slice_get-map, none-some}
+use Rattle.std.proofs.lemmas.Option.{slice_get-map}
 use Rattle.std.specs.Option.{option_map}
 use Rattle.fl_base.specs.declared.types.Geometry.{Geometry}
 use Rattle.fl_flash.specs.Flash.{FlashState}
@@ -13,7 +13,7 @@ use Rattle.fl_model.specs.Record.{RowLayout}
 use Rattle.fl_model.specs.Row.{Row, stored_row}
 use Rattle.fl_model.specs.Table as model
 use Rattle.fl_model.specs.Table.{Entry}
-use Rattle.fl_model.proofs.Lists.{each-at, take_none}
+use Rattle.fl_model.proofs.Lists.{each-at, take_none, take-one_more}
 use Rattle.fl_page.specs.Header.{page_count}
 use Rattle.fl_page.specs.Page.{IsGoodPage, rows_in}
 use Rattle.fl_page.specs.View.{page_of, layout_of_page, count_of}
@@ -31,14 +31,6 @@ use Rattle.fl_rlc.proofs.PutFrames.{blobs-same}
 use Rattle.fl_rlc.proofs.TakenRecord.{fits-bare, room-for}
 use Rattle.fl_rlc.proofs.Sizes.{few-bytes}
 use Rattle.fl_rlc.proofs.join.join_rows.Goals as goal
-
-take-more : {X : Type 0} (i : ℕ) (xs : List X) (x : X) → slice_get xs i ≡ Some x → take (suc i) xs ≡ take i xs ++ x ∷ []
-take-more {X} i [] x e = absurd (none-some x e)
-take-more {X} zero (y ∷ ys) x e = let same : y ≡ x = cc in ap (λ (z : X). z ∷ take 0 ys) same ∙ ap (λ (zs : List X). x ∷ zs) (take_none ys)
-take-more {X} (suc i) (y ∷ ys) x e = ap (λ (zs : List X). y ∷ zs) (take-more i ys x e)
-
-take-push : {X : Type 0} (i : ℕ) (xs : List X) (x : X) → slice_get xs i ≡ Some x → take (i + 1) xs ≡ take i xs ++ x ∷ []
-take-push {X} i xs x e = ap (λ (n : ℕ). take n xs) (let k : i + 1 ≡ suc i = omega arith in k) ∙ take-more i xs x e
 
 -- the record of a row
 record Found (es : List Entry) (i key : ℕ) (values : List ℤ) : Type 0 where
@@ -129,7 +121,7 @@ loop-i-preserved g c =
           let k = c.take_record.ensures.takes first (bare plan) (all_taken (bare_table table_now) (take c.loop-i.i es)) rose device at.entry watched_now (c.loop-i.invariant.joins first plan table_now rose device watched s page rows)
           (fits-bare plan at.entry (each-at (FitsPlan plan) es c.loop-i.i at.entry page.fit at.is)) at.key_is at.values_is in
           subst (λ (x : model.Table). Stands c.take_record.new.table (g.F.Flash.state c.take_record.new.flash) first (bare plan) x)
-          (sym (taken-push (bare_table table_now) (take c.loop-i.i es) at.entry) ∙ ap (all_taken (bare_table table_now)) (sym (take-push c.loop-i.i es at.entry at.is))) k;
+          (sym (taken-push (bare_table table_now) (take c.loop-i.i es) at.entry) ∙ ap (all_taken (bare_table table_now)) (sym (take-one_more es c.loop-i.i at.entry at.is))) k;
     }
 
 pub returns-clause-offers : goal.returns-clause-offers

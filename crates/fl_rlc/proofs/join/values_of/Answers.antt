@@ -1,7 +1,7 @@
 use Rattle.std.proofs.Common.{◌≡◌, length, take, drop, ap, ◌∙◌, arith}
 use Rattle.std.proofs.Math.Seq.{take-length}
+use Rattle.fl_model.proofs.RowValues.{length-values_in}
 use Rattle.fl_schema.specs.Schema.{row_of, layout_of_row, bytes_of}
-use Rattle.fl_rlc.proofs.RowValues.{length-values_in}
 use Rattle.fl_rlc.proofs.join.values_of.Goals as goal
 
 pub returns : goal.returns

@@ -8,6 +8,7 @@ use Rattle.fl_page.specs.Page.{IsGoodPage, rows_in}
 use Rattle.fl_frame.specs.Causes.{ReadFails}
 use Rattle.fl_frame.specs.Reads.{OnlyReads}
 use Rattle.fl_ring.proofs.Founds.{same_pages}
+use Rattle.fl_ring.proofs.RepairSteps.{device_still}
 use Rattle.fl_table.specs.Look.{layout_in}
 use Rattle.fl_table.proofs.Apart.{stands-pages}
 use Rattle.fl_frame.proofs.WatchedInTurn.{watched-then}
@@ -19,7 +20,7 @@ use Rattle.fl_rlc.specs.Memory.{page_in}
 use Rattle.fl_rlc.specs.Offering.{AreOffered}
 use Rattle.fl_rlc.specs.Pages.{log_body}
 use Rattle.fl_rlc.specs.Replaying.{MayStand, IsBad}
-use Rattle.fl_rlc.proofs.NewestRead.{never-bad, bad-of_pages, bad-no_flash, read-fails, device-reads, newest-read}
+use Rattle.fl_rlc.proofs.NewestRead.{never-bad, bad-of_pages, bad-no_flash, read-fails, newest-read}
 use Rattle.fl_rlc.proofs.OfferedRecords.{none-joined}
 use Rattle.fl_base.specs.declared.types.Geometry.{Geometry}
 use Rattle.fl_rlc.proofs.Sizes.{some-bytes, few-bytes}
@@ -171,7 +172,7 @@ returns-clause-joins g c = λ first plan table rose device watched s none newest
     let bytes : c.read.new.buf.bytes ≡ committed (log_body plan c.args.number table.logged) = c.in_ok-read.ensures.page watched.told ∙ newest.bytes in
     let read = newest-read t old first plan table c.args.number c.requires.no_blobs s newest.page newest.small in
     let rows : rows_in (layout_in c.args.table.now) c.read.new.buf.bytes ≡ _ = ap (λ (b : List ℕ). rows_in (layout_in t) b) bytes ∙ (ap (λ (l : RowLayout). rows_in l (committed (log_body plan c.args.number table.logged))) (sym s.planned.layout) ∙ read.rows) in
-    c.join_rows.ensures.joins first plan table rose device (watched-then old mid new rose device device watched reads.goes c.in_ok-read.ensures.power (device-reads old mid 1 device reads watched.counts))
+    c.join_rows.ensures.joins first plan table rose device (watched-then old mid new rose device device watched reads.goes c.in_ok-read.ensures.power (device_still old mid 1 device reads watched.counts))
     (stands-pages old mid (same_pages old mid 1 reads) t first (bare plan) (bare_table table) s) none newest.page.page rows
 
 pub returns-clause-reads : goal.returns-clause-reads

@@ -9,6 +9,7 @@ use Rattle.fl_model.specs.Table.{Table}
 use Rattle.fl_model.specs.Table.{LogRing, shape_of}
 use Rattle.fl_ring.specs.declared.newest.NewestPage.{NewestPage}
 use Rattle.fl_ring.proofs.Founds.{same_pages}
+use Rattle.fl_ring.proofs.RepairSteps.{device_still}
 use Rattle.fl_parts.specs.Faults.{IfPage}
 use Rattle.fl_table.specs.Look.{layout_in}
 use Rattle.fl_frame.proofs.WatchedInTurn.{watched-first, watched-then, cause-later}
@@ -24,7 +25,7 @@ use Rattle.fl_rlc.specs.Replaying.{IsBad}
 use Rattle.fl_rlc.proofs.JoinedRow.{same-pages}
 use Rattle.fl_rlc.proofs.LogReads.{log-reads, few-rings, found-none, found-some}
 use Rattle.fl_rlc.proofs.MountLimits.{log-more}
-use Rattle.fl_rlc.proofs.NewestRead.{if-told, device-reads}
+use Rattle.fl_rlc.proofs.NewestRead.{if-told}
 use Rattle.fl_rlc.proofs.OfferedRecords.{sealed-empty}
 use Rattle.fl_rlc.proofs.PutFrames.{log-moved}
 use Rattle.fl_rlc.proofs.ReplayLeft.{no-var-blocks, joined-rings, none-leaves, seal-leaves}
@@ -212,7 +213,7 @@ returns-in_err-joined-clause-ends g c = λ first plan table rose device watched 
     let joins = c.in_err-joined.ensures.joins first plan (ready plan m.now.state) rose m.now.device (watched-then old f1 f2 rose device m.now.device watched k.beside.goes m.power m.counts)
     (begun-stands t l old first plan table rose device s none rests.planned l1 k.same f1 outside m) (begun-none t l old first plan table rose device s none rests.planned l1 k.same f1 outside m) newest in
     let p = err_from_is_err_and c.from_residual-in_err-joined.result c.from_residual-in_err-joined.ensures.1 in
-    rw (p.1, p.2) (page-fault t l old first plan table rose device s none rests.planned l1 k.same f1 outside m c.in_err-joined.field-0.0 l1 c.join_newest-joined.new.table c.join_newest-joined.new.table f2 (same_pages f1 f2 1 reads) (device-reads f1 f2 1 m.now.device reads m.counts) joins)
+    rw (p.1, p.2) (page-fault t l old first plan table rose device s none rests.planned l1 k.same f1 outside m c.in_err-joined.field-0.0 l1 c.join_newest-joined.new.table c.join_newest-joined.new.table f2 (same_pages f1 f2 1 reads) (device_still f1 f2 1 m.now.device reads m.counts) joins)
 
 pub returns-in_err-joined-clause-finds : goal.returns-in_err-joined-clause-finds
 returns-in_err-joined-clause-finds g c = let p = err_from_is_err_and c.from_residual-in_err-joined.result c.from_residual-in_err-joined.ensures.1 in rw p.1 tt
@@ -302,7 +303,7 @@ returns-in_err-seal_rows-clause-ends g c = λ first plan table rose device watch
     let newest = found-some l l1 old f1 (first + blocks_of (bare plan)) plan (ready plan m.now.state) k.same ring sizes watched.told c.in_ok-newest.field-0 k.found c.in-Some.newest c.in-Some.is in
     let joins = c.in_ok-joined.ensures.joins first plan (ready plan m.now.state) rose m.now.device (watched-then old f1 f2 rose device m.now.device watched2 k.beside.goes m.power m.counts)
     (begun-stands t l old first plan table rose device s none rests.planned l1 k.same f1 outside m) (begun-none t l old first plan table rose device s none rests.planned l1 k.same f1 outside m) newest in
-    let later = watched-then old f2 f3 rose device m.now.device watched (goes-then old f1 f2 k.beside.goes reads.goes) c.in_ok-joined.ensures.power (device-reads f1 f2 1 m.now.device reads m.counts) in
+    let later = watched-then old f2 f3 rose device m.now.device watched (goes-then old f1 f2 k.beside.goes reads.goes) c.in_ok-joined.ensures.power (device_still f1 f2 1 m.now.device reads m.counts) in
     let p = err_from_is_err_and c.from_residual-in_err-seal_rows.result c.from_residual-in_err-seal_rows.ensures.1 in
     rw (p.1, p.2) (seal-badly t l old first plan table rose device s none rests.planned l1 k.same f1 outside m c.join_newest-joined.new.table f2 f3 (same_pages f1 f2 1 reads) joins.planned (c.in_err-seal_rows.ensures.outside later.told)
     c.seal_rows.new.table c.in_err-seal_rows.field-0.0 (c.in_err-seal_rows.ensures.ends first (bare plan) (bare_table (joined (ready plan m.now.state))) rose m.now.device later joins))
@@ -406,7 +407,7 @@ returns-clause-ends g c = λ first plan table rose device watched s none rests.
     let newest = found-some l l1 old f1 (first + blocks_of (bare plan)) plan (ready plan m.now.state) k.same ring sizes watched.told c.in_ok-newest.field-0 k.found c.in-Some.newest c.in-Some.is in
     let joins = c.in_ok-joined.ensures.joins first plan (ready plan m.now.state) rose m.now.device (watched-then old f1 f2 rose device m.now.device watched2 k.beside.goes m.power m.counts)
     (begun-stands t l old first plan table rose device s none rests.planned l1 k.same f1 outside m) (begun-none t l old first plan table rose device s none rests.planned l1 k.same f1 outside m) newest in
-    let later = watched-then old f2 f3 rose device m.now.device watched (goes-then old f1 f2 k.beside.goes reads.goes) c.in_ok-joined.ensures.power (device-reads f1 f2 1 m.now.device reads m.counts) in
+    let later = watched-then old f2 f3 rose device m.now.device watched (goes-then old f1 f2 k.beside.goes reads.goes) c.in_ok-joined.ensures.power (device_still f1 f2 1 m.now.device reads m.counts) in
     seal-well t l old first plan table rose device s none rests.planned l1 k.same f1 outside m c.join_newest-joined.new.table f2 f3 (same_pages f1 f2 1 reads) joins.planned (c.in_ok-seal_rows.ensures.outside later.told)
     c.seal_rows.new.table (c.in_ok-seal_rows.ensures.ends first (bare plan) (bare_table (joined (ready plan m.now.state))) rose m.now.device later joins)
 
@@ -456,7 +457,7 @@ returns-clause-finds g c = record {
       let newest = found-some l l1 old f1 (first + blocks_of (bare plan)) plan (ready plan m.now.state) k.same ring sizes watched.told c.in_ok-newest.field-0 k.found c.in-Some.newest c.in-Some.is in
       let joins = c.in_ok-joined.ensures.joins first plan (ready plan m.now.state) rose m.now.device (watched-then old f1 f2 rose device m.now.device watched2 k.beside.goes m.power m.counts)
       (begun-stands t l old first plan table rose device s none rests.planned l1 k.same f1 outside m) (begun-none t l old first plan table rose device s none rests.planned l1 k.same f1 outside m) newest in
-      let later = watched-then old f2 f3 rose device m.now.device watched (goes-then old f1 f2 k.beside.goes reads.goes) c.in_ok-joined.ensures.power (device-reads f1 f2 1 m.now.device reads m.counts) in
+      let later = watched-then old f2 f3 rose device m.now.device watched (goes-then old f1 f2 k.beside.goes reads.goes) c.in_ok-joined.ensures.power (device_still f1 f2 1 m.now.device reads m.counts) in
       let p = c.in_ok-seal_rows.ensures.ends first (bare plan) (bare_table (joined (ready plan m.now.state))) rose m.now.device later joins in
       let found = subst (λ (o : Option NewestPage). Finds l old o l1 f1) c.in-Some.is k.found in
       let rings = joined-rings (ready plan m.now.state) in

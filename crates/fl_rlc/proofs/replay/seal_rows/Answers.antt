@@ -1,12 +1,11 @@
-use Rattle.std.proofs.Common.{◌≡◌, Bool, true, not, ◌&&◌, Result, Ok, Err, ◌∙◌, ap, subst, sym}
+use Rattle.std.proofs.Common.{◌≡◌, Bool, true, not, ◌&&◌, Result, Ok, Err, ◌∙◌, ap, subst, sym, pos_of_ne-zero}
 use Rattle.fl_table.specs.Causes.{FlushCausedBy, flush_breaks}
 use Rattle.fl_table.specs.Outcomes.{FlushEnds}
 use Rattle.fl_table.specs.declared.faults.FlushFault.{FlushFault}
 use Rattle.fl_table.specs.Memory.{is_running, pending_in}
-use Rattle.fl_parts.proofs.Untouched.{and-false}
-use Rattle.fl_rlc.proofs.OfferedRecords.{some-there}
 use Rattle.fl_parts.proofs.Sizes.{table-fits}
 use Rattle.std.proofs.lemmas.Bool.{true≢false}
+use Rattle.std.proofs.Math.Bool.{and-false}
 use Rattle.fl_rlc.proofs.replay.seal_rows.Goals as goal
 
 pub returns-in-Ok-clause-ends : goal.returns-in-Ok-clause-ends
@@ -31,7 +30,7 @@ pub returns-in-Err-Flash-clause-writes : goal.returns-in-Err-Flash-clause-writes
 returns-in-Err-Flash-clause-writes g c = c.in-Err-Flash.ensures.flash.writes
 
 pub returns-in-Err-Flash-clause-some : goal.returns-in-Err-Flash-clause-some
-returns-in-Err-Flash-clause-some g c = some-there (pending_in c.args.table.now) (λ none. no c.in-Err-Flash.field-0 (c.in-Err-Flash.ensures.page.quiet c.requires.running none).0)
+returns-in-Err-Flash-clause-some g c = pos_of_ne-zero {n = pending_in c.args.table.now} (λ none. no c.in-Err-Flash.field-0 (c.in-Err-Flash.ensures.page.quiet c.requires.running none).0)
   where
     no : (e : FlushFault) → ◌≡◌ {A = Result (Unit {0}) FlushFault} (Err e) (Ok tt) → ⊥
     no e k = cc

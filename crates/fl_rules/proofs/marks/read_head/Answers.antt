@@ -1,4 +1,4 @@
-use Rattle.std.proofs.Common.{ℕ, ◌∙◌, ap, arith, ◌<◌, ◌≤◌, subst}
+use Rattle.std.proofs.Common.{ℕ, ◌∙◌, ap, arith, ◌<◌, ◌≤◌, subst, le_refl}
 use Rattle.fl_flash.specs.Flash.{page_at}
 use Rattle.fl_ring.specs.Looking.{state_at}
 use Rattle.fl_ring.specs.Place.{shape_of}
@@ -7,7 +7,7 @@ use Rattle.fl_ring.proofs.ReadsInTurn.{same_state, fewer_reads, mark_fits}
 use Rattle.fl_frame.proofs.ReadsInTurn.{more_reads, told_still, no_reads}
 use Rattle.fl_rules.proofs.Heads.{stepped_for, gap_for, ordered_for}
 use Rattle.std.proofs.lemmas.Result.{err_from_is_err_and}
-use Rattle.fl_rules.proofs.OneMorePage.{one_read, read_fails, at_most, look_room, none_least, none_under, some_of, state_read}
+use Rattle.fl_rules.proofs.OneMorePage.{one_read, read_fails, look_room, none_least, none_under, some_of, state_read}
 use Rattle.fl_ring.specs.Head.{page_in}
 use Rattle.fl_rules.proofs.marks.read_head.Goals as goal
 
@@ -93,7 +93,7 @@ pub returns-clause-sealed : goal.returns-clause-sealed
 returns-clause-sealed g c = c.loop-i.invariant.below
 
 pub returns-clause-within : goal.returns-clause-within
-returns-clause-within g c = subst (λ (k : ℕ). c.per_block-count.result ≤ k) c.per_block-count.ensures.pages (at_most c.per_block-count.result)
+returns-clause-within g c = subst (λ (k : ℕ). c.per_block-count.result ≤ k) c.per_block-count.ensures.pages (le_refl c.per_block-count.result)
 
 pub returns-clause-fails : goal.returns-clause-fails
 returns-clause-fails g c = tt

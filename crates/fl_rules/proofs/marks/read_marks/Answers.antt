@@ -1,11 +1,10 @@
-use Rattle.std.proofs.Common.{arith, ◌+◌, ℕ, ◌<◌, ◌≤◌, sym, ◌∙◌, ap, subst, ◌*◌, ◌^◌}
+use Rattle.std.proofs.Common.{arith, ◌+◌, ℕ, ◌<◌, ◌≤◌, sym, ◌∙◌, ap, subst, ◌*◌, ◌^◌, le-add_right}
 use Rattle.std.proofs.lemmas.Result.{err_from_is_err_and}
 use Rattle.fl_ring.specs.Place.{shape_of}
 use Rattle.fl_frame.proofs.ReadsInTurn.{told_still, looks_by, more_reads}
 use Rattle.fl_rules.proofs.Heads.{marks_for, within_for}
 use Rattle.fl_ring.proofs.Exists.{lies_still}
 use Rattle.fl_ring.proofs.ReadsInTurn.{fewer_reads}
-use Rattle.fl_rules.proofs.OneMorePage.{more_of}
 use Rattle.fl_rules.proofs.LooksChangeNothing.{fails_later}
 use Rattle.fl_ring.proofs.LooksBack.{ends_small, place_small}
 use Rattle.fl_rules.proofs.Results.{same_flash, no_fault}
@@ -45,7 +44,7 @@ pub scan_blocks-requires-clause-room : goal.scan_blocks-requires-clause-room
 scan_blocks-requires-clause-room g c = c.requires.room
 
 pub returns-in_err-scan-clause-reads : goal.returns-in_err-scan-clause-reads
-returns-in_err-scan-clause-reads g c = fewer_reads (g.F.Flash.state c.args.flash.now) (g.F.Flash.state c.scan_blocks.new.flash) c.args.ring.now.blocks (c.args.ring.now.blocks + c.args.ring.now.per_block) c.scan_blocks.ensures.reads (more_of c.args.ring.now.blocks c.args.ring.now.per_block)
+returns-in_err-scan-clause-reads g c = fewer_reads (g.F.Flash.state c.args.flash.now) (g.F.Flash.state c.scan_blocks.new.flash) c.args.ring.now.blocks (c.args.ring.now.blocks + c.args.ring.now.per_block) c.scan_blocks.ensures.reads (le-add_right c.args.ring.now.blocks c.args.ring.now.per_block)
 
 pub returns-in_err-scan-clause-room : goal.returns-in_err-scan-clause-room
 returns-in_err-scan-clause-room g c = c.scan_blocks.ensures.room
@@ -71,7 +70,7 @@ returns-in_err-scan-clause-fails g c =
     rw (p.1, p.2) c.in_err-scan.ensures.fails
 
 pub returns-then-heads-ne1-clause-reads : goal.returns-then-heads-ne1-clause-reads
-returns-then-heads-ne1-clause-reads g c = fewer_reads (g.F.Flash.state c.args.flash.now) (g.F.Flash.state c.scan_blocks.new.flash) c.args.ring.now.blocks (c.args.ring.now.blocks + c.args.ring.now.per_block) c.scan_blocks.ensures.reads (more_of c.args.ring.now.blocks c.args.ring.now.per_block)
+returns-then-heads-ne1-clause-reads g c = fewer_reads (g.F.Flash.state c.args.flash.now) (g.F.Flash.state c.scan_blocks.new.flash) c.args.ring.now.blocks (c.args.ring.now.blocks + c.args.ring.now.per_block) c.scan_blocks.ensures.reads (le-add_right c.args.ring.now.blocks c.args.ring.now.per_block)
 
 pub returns-then-heads-ne1-clause-room : goal.returns-then-heads-ne1-clause-room
 returns-then-heads-ne1-clause-room g c = c.scan_blocks.ensures.room

@@ -1,7 +1,7 @@
 use Rattle.std.proofs.Common.{ℕ, ◌+◌, ◌*◌, ◌<◌, ◌≤◌, List, refl, sym, subst, arith}
 use Rattle.std.proofs.lemmas.Result.{err_from_is_err_and}
 use Rattle.fl_flash.specs.Flash.{page_at}
-use Rattle.fl_frame.proofs.ReadsInTurn.{looks_by, more_reads}
+use Rattle.fl_frame.proofs.ReadsInTurn.{looks_by, more_reads, looks_pages}
 use Rattle.fl_ring.specs.Place.{shape_of}
 use Rattle.fl_ring.specs.Ring.{room}
 use Rattle.fl_ring.proofs.Exists.{lies_still}
@@ -12,7 +12,7 @@ use Rattle.fl_rules.specs.States.{HaveStates, StatesBreak}
 use Rattle.fl_rules.specs.declared.rule.Breach.{Breach}
 use Rattle.fl_rules.specs.declared.rule.Rule.{Rule}
 use Rattle.fl_rules.proofs.Results.{broken_so, flash_so, no_fault, same_fault}
-use Rattle.fl_rules.proofs.LooksChangeNothing.{same_pages, seen, told_still, fails_later}
+use Rattle.fl_rules.proofs.LooksChangeNothing.{seen, told_still, fails_later}
 use Rattle.fl_rules.proofs.numbering.check_numbering.Goals as goal
 
 -- ---- the reads
@@ -109,7 +109,7 @@ returns-in_err-check_states-clause-broken g c =
     rw (p.1, p.2) (broken_so _ _ c.in_err-check_states.field-0.0
     (λ b breaks told.
     let both = breaks (told_still f second looks told) in
-    let here : BreaksStates (page_at f) r b.page = record { m = m; marks = c.in_ok-marks.ensures.marks told; breaks = subst (λ (page : ℕ → List ℕ). StatesBreak page r m b.page) (same_pages f second looks) both.1 } in
+    let here : BreaksStates (page_at f) r b.page = record { m = m; marks = c.in_ok-marks.ensures.marks told; breaks = subst (λ (page : ℕ → List ℕ). StatesBreak page r m b.page) (looks_pages f second looks) both.1 } in
     subst (λ (rule : Rule). BreaksFirst (page_at f) r c.args.at_least rule b.page) (sym both.0) here)
     c.in_err-check_states.ensures.broken)
 
@@ -182,7 +182,7 @@ returns-in_err-next-clause-broken g c =
       m = m;
       marks = c.in_ok-marks.ensures.marks told;
       states = seen f second (λ (page : ℕ → List ℕ). HaveStates page r m) looks c.in_ok-check_states.ensures.states told;
-      breaks = subst (λ (page : ℕ → List ℕ). NumbersBreak page r m c.args.at_least b.page) (same_pages f third later) both.1;
+      breaks = subst (λ (page : ℕ → List ℕ). NumbersBreak page r m c.args.at_least b.page) (looks_pages f third later) both.1;
     } in
     subst (λ (rule : Rule). BreaksFirst (page_at f) r c.args.at_least rule b.page) (sym both.0) here)
     c.in_err-next.ensures.broken)

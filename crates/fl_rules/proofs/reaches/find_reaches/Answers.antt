@@ -1,4 +1,4 @@
-use Rattle.std.proofs.Common.{◌≡◌, ℕ, List, ◌+◌, ◌-◌, length, IsTrue, sym, ◌∙◌, ap, arith, subst, refl, ◌<◌, ◌≤◌}
+use Rattle.std.proofs.Common.{◌≡◌, ℕ, List, ◌+◌, ◌-◌, length, IsTrue, sym, ◌∙◌, ap, arith, subst, refl, ◌<◌, ◌≤◌, le_refl, le_antisymm}
 use Rattle.fl_flash.specs.Flash.{page_at}
 use Rattle.fl_ring.specs.Newest.{page_back}
 use Rattle.fl_ring.specs.Place.{shape_of}
@@ -9,7 +9,7 @@ use Rattle.fl_rules.specs.Reaches.{reach, reach_from, AreReaches}
 use Rattle.fl_rules.specs.References.{content_room}
 use Rattle.fl_rules.proofs.BlobReaches.{reach_next, listed_next}
 use Rattle.std.proofs.lemmas.Result.{err_from_is_err_and}
-use Rattle.fl_rules.proofs.OneMorePage.{one_read, read_fails, look_room, page_long, some_more, more_few, all_below, at_most}
+use Rattle.fl_rules.proofs.OneMorePage.{one_read, read_fails, look_room, page_long, some_more, more_few}
 use Rattle.fl_rules.proofs.Rooms.{next_small, sum_small, index_small, offset_small}
 use borrow.Author.Count.{below_none}
 use Rattle.fl_rules.proofs.reaches.find_reaches.Goals as goal
@@ -90,10 +90,10 @@ pub reach_from-reach-requires-clause-size : goal.reach_from-reach-requires-claus
 reach_from-reach-requires-clause-size g c = page_long c.bytes.result.now c.look.new.buf.bytes c.bytes.ensures (c.look.ensures.room ∙ c.loop-i.invariant.room) c.args.ring.now.served.size
 
 pub returns-clause-reaches : goal.returns-clause-reaches
-returns-clause-reaches g c = λ told. subst (λ (k : ℕ). AreReaches (page_at (g.F.Flash.state c.args.flash.now)) (shape_of c.args.ring.now) c.args.m.at k c.loop-i.reaches) (all_below c.loop-i.auto.i-end c.loop-i-test.false) (c.loop-i.invariant.reaches told)
+returns-clause-reaches g c = λ told. subst (λ (k : ℕ). AreReaches (page_at (g.F.Flash.state c.args.flash.now)) (shape_of c.args.ring.now) c.args.m.at k c.loop-i.reaches) (le_antisymm c.loop-i.auto.i-end c.loop-i-test.false) (c.loop-i.invariant.reaches told)
 
 pub loop-i-init : goal.loop-i-init
-loop-i-init g c = record { reads = no_reads (g.F.Flash.state c.args.flash.now); room = c.requires.room; few = at_most 0; reach = λ told. refl; reaches = λ told. below_none _ }
+loop-i-init g c = record { reads = no_reads (g.F.Flash.state c.args.flash.now); room = c.requires.room; few = le_refl 0; reach = λ told. refl; reaches = λ told. below_none _ }
 
 pub overflow_add-i : goal.overflow_add-i
 overflow_add-i g c = record { fits = next_small c.loop-i.i c.args.m.kept c.args.ring.now.first_block c.args.ring.now.blocks c.args.ring.now.per_block c.loop-i-test.true c.requires.within.kept c.args.ring.now.reach }

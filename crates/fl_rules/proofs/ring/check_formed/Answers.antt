@@ -1,13 +1,13 @@
 use Rattle.std.proofs.Common.{ℕ, List, subst}
 use Rattle.std.proofs.lemmas.Result.{err_from_is_err_and}
 use Rattle.fl_flash.specs.Flash.{page_at}
-use Rattle.fl_frame.proofs.ReadsInTurn.{looks_by, looks_more}
+use Rattle.fl_frame.proofs.ReadsInTurn.{looks_by, looks_more, looks_pages}
 use Rattle.fl_ring.specs.Place.{shape_of}
 use Rattle.fl_ring.proofs.Exists.{lies_still}
 use Rattle.fl_rules.specs.Bodies.{HaveBodies, BodiesBreak}
 use Rattle.fl_rules.specs.Numbering.{numbering_reads}
 use Rattle.fl_rules.proofs.Results.{broken_so, flash_so, no_fault}
-use Rattle.fl_rules.proofs.LooksChangeNothing.{same_pages, seen, told_still, fails_later}
+use Rattle.fl_rules.proofs.LooksChangeNothing.{seen, told_still, fails_later}
 use Rattle.fl_rules.proofs.RingRules.{first_breaks, bodies_break}
 use Rattle.fl_rules.proofs.ring.check_formed.Goals as goal
 
@@ -85,7 +85,7 @@ returns-in_err-check_forms-clause-broken g c =
     rw (p.1, p.2) (broken_so _ _ c.in_err-check_forms.field-0.0
     (λ b breaks told order.
     let both = breaks (told_still f mid looks told) in
-    bodies_break holds order (page_at f) r c.args.at_least n b (c.in_ok-n.ensures.numbered told) (both.0, subst (λ (page : ℕ → List ℕ). BodiesBreak holds page r n b.page) (same_pages f mid looks) both.1))
+    bodies_break holds order (page_at f) r c.args.at_least n b (c.in_ok-n.ensures.numbered told) (both.0, subst (λ (page : ℕ → List ℕ). BodiesBreak holds page r n b.page) (looks_pages f mid looks) both.1))
     c.in_err-check_forms.ensures.broken)
 
 pub returns-in_err-check_forms-clause-fails : goal.returns-in_err-check_forms-clause-fails

@@ -8,8 +8,8 @@ use Rattle.fl_rules.specs.DataPage.{IsDataPage}
 use Rattle.fl_rules.specs.Rest.{IsRestBlank, RestBreaks}
 use Rattle.fl_rules.specs.RingRules.{WithinPages, IsAscending}
 use Rattle.fl_rules.proofs.Results.{broken_so, flash_so}
-use Rattle.fl_frame.proofs.ReadsInTurn.{looks_by, looks_more}
-use Rattle.fl_rules.proofs.LooksChangeNothing.{same_pages, seen, told_still, fails_later}
+use Rattle.fl_frame.proofs.ReadsInTurn.{looks_by, looks_more, looks_pages}
+use Rattle.fl_rules.proofs.LooksChangeNothing.{seen, told_still, fails_later}
 use Rattle.fl_rules.proofs.RingRules.{keys_break, rest_break}
 use Rattle.fl_ring.specs.Ring.{room}
 use Rattle.fl_ring.proofs.Exists.{lies_still}
@@ -33,7 +33,7 @@ returns-in_err-check_forms-clause-broken g c =
     (λ b breaks told.
     let both = breaks (told_still f mid looks told) in
     keys_break (λ number bytes. IsDataPage layout c.args.form.now.buckets number bytes) (WithinPages layout) (page_at f) r 0 n b (c.in_ok-n.ensures.formed told)
-    (both.0, subst (λ (page : ℕ → List ℕ). BodiesBreak (λ number bytes. IsAscending layout number bytes) page r n b.page) (same_pages f mid looks) both.1))
+    (both.0, subst (λ (page : ℕ → List ℕ). BodiesBreak (λ number bytes. IsAscending layout number bytes) page r n b.page) (looks_pages f mid looks) both.1))
     c.in_err-check_forms.ensures.broken)
 
 pub returns-in_err-check_rest-clause-broken : goal.returns-in_err-check_rest-clause-broken
@@ -52,7 +52,7 @@ returns-in_err-check_rest-clause-broken g c =
     let both = breaks (told_still f late later told) in
     rest_break (λ number bytes. IsDataPage layout c.args.form.now.buckets number bytes) (WithinPages layout) (page_at f) r 0 n b (c.in_ok-n.ensures.formed told)
     (seen f mid (λ (page : ℕ → List ℕ). HaveBodies (λ number bytes. IsAscending layout number bytes) page r n) looks c.in_ok-check_forms.ensures.bodies told)
-    (both.0, subst (λ (page : ℕ → List ℕ). RestBreaks page r n.marks b.page) (same_pages f late later) both.1))
+    (both.0, subst (λ (page : ℕ → List ℕ). RestBreaks page r n.marks b.page) (looks_pages f late later) both.1))
     c.in_err-check_rest.ensures.broken)
 
 pub returns-clause-sound : goal.returns-clause-sound

@@ -1,9 +1,9 @@
 use Rattle.std.proofs.Common.{ℕ, List, subst}
 use Rattle.fl_ring.specs.Place.{shape_of}
 use Rattle.fl_rules.specs.Rest.{IsRestBlank, RestBreaks}
-use Rattle.fl_rules.proofs.LooksChangeNothing.{seen, fails_later, same_pages, told_still}
+use Rattle.fl_rules.proofs.LooksChangeNothing.{seen, fails_later, told_still}
 use Rattle.std.proofs.lemmas.Result.{err_from_is_err_and}
-use Rattle.fl_frame.proofs.ReadsInTurn.{looks_by, looks_more}
+use Rattle.fl_frame.proofs.ReadsInTurn.{looks_by, looks_more, looks_pages}
 use Rattle.fl_ring.specs.Ring.{room}
 use Rattle.fl_ring.proofs.Exists.{lies_still}
 use Rattle.fl_rules.proofs.Results.{broken_so, flash_so, no_fault}
@@ -107,7 +107,7 @@ returns-in_err-check_rest-clause-broken g c =
     (λ b breaks told.
     let both = breaks (told_still f mid looks told) in
     rest_break (g.B.Form.holds c.args.form.now) NoRows (page_at f) r c.args.at_least n b (c.in_ok-n.ensures.formed told) tt
-    (both.0, subst (λ (page : ℕ → List ℕ). RestBreaks page r n.marks b.page) (same_pages f mid looks) both.1))
+    (both.0, subst (λ (page : ℕ → List ℕ). RestBreaks page r n.marks b.page) (looks_pages f mid looks) both.1))
     c.in_err-check_rest.ensures.broken)
 
 pub returns-clause-looks : goal.returns-clause-looks

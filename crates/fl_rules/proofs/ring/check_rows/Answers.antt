@@ -9,8 +9,8 @@ use Rattle.fl_rules.specs.RingRules.{OverPages}
 use Rattle.fl_rules.specs.Rising.{HaveRows, KeysAscend, KeysBreak}
 use Rattle.fl_rules.proofs.FormedRows.{page_short, have_rows}
 use Rattle.fl_rules.proofs.Results.{broken_so, flash_so, no_fault}
-use Rattle.fl_frame.proofs.ReadsInTurn.{looks_by, looks_more}
-use Rattle.fl_rules.proofs.LooksChangeNothing.{same_pages, seen, told_still, fails_later}
+use Rattle.fl_frame.proofs.ReadsInTurn.{looks_by, looks_more, looks_pages}
+use Rattle.fl_rules.proofs.LooksChangeNothing.{seen, told_still, fails_later}
 use Rattle.fl_rules.proofs.RingRules.{keys_break, rest_break}
 use Rattle.fl_ring.specs.Ring.{room}
 use Rattle.fl_ring.proofs.Exists.{lies_still}
@@ -37,9 +37,9 @@ returns-in_err-check_keys-clause-broken g c =
     let formed = c.in_ok-n.ensures.formed told in
     let have = have_rows schema.key (types_of schema) schema.blobs buckets (page_at f) r c.args.at_least n
     (λ p. let few = page_short f p in let small = c.args.ring.now.small_pages in let size = c.requires.lies.page in omega (arith, few, small, size)) formed in
-    let both = breaks (told_still f mid looks told) (subst (λ (page : ℕ → List ℕ). HaveRows layout page r n.marks) (sym (same_pages f mid looks)) have) in
+    let both = breaks (told_still f mid looks told) (subst (λ (page : ℕ → List ℕ). HaveRows layout page r n.marks) (sym (looks_pages f mid looks)) have) in
     keys_break (λ number bytes. IsDataPage layout buckets number bytes) (OverPages layout) (page_at f) r c.args.at_least n b formed
-    (both.0, subst (λ (page : ℕ → List ℕ). KeysBreak layout page r n.marks b.page) (same_pages f mid looks) both.1))
+    (both.0, subst (λ (page : ℕ → List ℕ). KeysBreak layout page r n.marks b.page) (looks_pages f mid looks) both.1))
     c.in_err-check_keys.ensures.broken)
 
 pub returns-in_err-check_rest-clause-broken : goal.returns-in_err-check_rest-clause-broken
@@ -58,7 +58,7 @@ returns-in_err-check_rest-clause-broken g c =
     let both = breaks (told_still f late later told) in
     rest_break (λ number bytes. IsDataPage layout c.args.form.now.buckets number bytes) (OverPages layout) (page_at f) r c.args.at_least n b (c.in_ok-n.ensures.formed told)
     (seen f mid (λ (page : ℕ → List ℕ). KeysAscend layout page r n.marks) looks c.in_ok-check_keys.ensures.keys told)
-    (both.0, subst (λ (page : ℕ → List ℕ). RestBreaks page r n.marks b.page) (same_pages f late later) both.1))
+    (both.0, subst (λ (page : ℕ → List ℕ). RestBreaks page r n.marks b.page) (looks_pages f late later) both.1))
     c.in_err-check_rest.ensures.broken)
 
 pub returns-clause-sound : goal.returns-clause-sound

@@ -1,19 +1,19 @@
-use Rattle.std.proofs.Common.{ℕ, List, Option, IfNone, sym, subst, ◌+◌, inl, refl}
-use Rattle.std.proofs.lemmas.Result.{err_from_is_err_and, IfErr-weaker}
+use Rattle.std.proofs.Common.{ℕ, List, Option, IfNone, sym, subst, ◌+◌, inl, refl, le-add_right, le_of_lt}
+use Rattle.std.proofs.lemmas.Result.{err_from_is_err_and, IfErr-weaker, on_ok_weaker}
 use Rattle.fl_flash.specs.Flash.{page_at}
 use Rattle.fl_ring.specs.Place.{shape_of}
 use Rattle.fl_ring.proofs.Founds.{same_pages}
 use Rattle.fl_frame.proofs.ReadsInTurn.{told_still, looks_by, more_reads}
 use Rattle.fl_rules.specs.Claims.{AllBelow}
 use Rattle.fl_rules.specs.States.{IsSealed, StatesBreak, HaveStates}
-use Rattle.fl_rules.proofs.Stops.{if_broken, if_fine}
+use Rattle.fl_rules.proofs.Stops.{if_broken}
 use Rattle.fl_frame.specs.Causes.{ReadFails}
 use Rattle.fl_ring.proofs.Exists.{lies_still}
 use Rattle.fl_ring.proofs.ReadsInTurn.{fewer_reads}
 use Rattle.fl_rules.specs.Stop.{IfFlash}
 use Rattle.fl_rules.proofs.Results.{flash_so}
 use Rattle.fl_rules.proofs.LooksChangeNothing.{fails_later}
-use Rattle.fl_rules.proofs.OneMorePage.{few_back, more_of, some_back, under}
+use Rattle.fl_rules.proofs.OneMorePage.{few_back, some_back}
 use Rattle.std.proofs.lemmas.Option.{MatchOption-at_some}
 use Rattle.fl_rules.proofs.rule_2_state.check_states.Goals as goal
 
@@ -42,7 +42,7 @@ pub first_unsealed-requires-clause-within : goal.first_unsealed-requires-clause-
 first_unsealed-requires-clause-within g c = c.requires.within
 
 pub returns-in_err-unsealed-clause-reads : goal.returns-in_err-unsealed-clause-reads
-returns-in_err-unsealed-clause-reads g c = fewer_reads (g.F.Flash.state c.args.flash.now) (g.F.Flash.state c.first_unsealed.new.flash) c.args.m.kept (c.args.m.kept + ((shape_of c.args.ring.now).per_block + 1)) c.first_unsealed.ensures.reads (more_of c.args.m.kept ((shape_of c.args.ring.now).per_block + 1))
+returns-in_err-unsealed-clause-reads g c = fewer_reads (g.F.Flash.state c.args.flash.now) (g.F.Flash.state c.first_unsealed.new.flash) c.args.m.kept (c.args.m.kept + ((shape_of c.args.ring.now).per_block + 1)) c.first_unsealed.ensures.reads (le-add_right c.args.m.kept ((shape_of c.args.ring.now).per_block + 1))
 
 pub returns-in_err-unsealed-clause-room : goal.returns-in_err-unsealed-clause-room
 returns-in_err-unsealed-clause-room g c = c.first_unsealed.ensures.room
@@ -78,7 +78,7 @@ pub check_head-requires-clause-within : goal.check_head-requires-clause-within
 check_head-requires-clause-within g c = c.requires.within
 
 pub returns-in-Some-clause-reads : goal.returns-in-Some-clause-reads
-returns-in-Some-clause-reads g c = fewer_reads (g.F.Flash.state c.args.flash.now) (g.F.Flash.state c.first_unsealed.new.flash) c.args.m.kept (c.args.m.kept + ((shape_of c.args.ring.now).per_block + 1)) c.first_unsealed.ensures.reads (more_of c.args.m.kept ((shape_of c.args.ring.now).per_block + 1))
+returns-in-Some-clause-reads g c = fewer_reads (g.F.Flash.state c.args.flash.now) (g.F.Flash.state c.first_unsealed.new.flash) c.args.m.kept (c.args.m.kept + ((shape_of c.args.ring.now).per_block + 1)) c.first_unsealed.ensures.reads (le-add_right c.args.m.kept ((shape_of c.args.ring.now).per_block + 1))
 
 pub returns-in-Some-clause-room : goal.returns-in-Some-clause-room
 returns-in-Some-clause-room g c = c.first_unsealed.ensures.room
@@ -97,7 +97,7 @@ returns-in-None-clause-states g c =
     let m = c.args.m in
     let reads = c.first_unsealed.ensures.reads in
     let same = same_pages f second m.kept reads in
-    if_fine _ _ c.check_head.result
+    on_ok_weaker c.check_head.result
     (λ states told. subst (λ (page : ℕ → List ℕ). HaveStates page r m) same (states (told_still f second m.kept reads told)
     (subst (λ (page : ℕ → List ℕ). AllBelow (IsSealed page r m) m.kept) (sym same)
     (subst (λ (x : Option ℕ). IfNone x (AllBelow (IsSealed (page_at f) r m) m.kept)) c.in-None.is (c.in_ok-unsealed.ensures.none told)))))
@@ -132,4 +132,4 @@ pub returns-in-Some-clause-fails : goal.returns-in-Some-clause-fails
 returns-in-Some-clause-fails g c = rw c.broken.ensures tt
 
 pub overflow_sub-m : goal.overflow_sub-m
-overflow_sub-m g c = under (MatchOption-at_some _ _ c.in-Some.i c.in-Some.is c.in_ok-unsealed.ensures.within)
+overflow_sub-m g c = le_of_lt (MatchOption-at_some _ _ c.in-Some.i c.in-Some.is c.in_ok-unsealed.ensures.within)

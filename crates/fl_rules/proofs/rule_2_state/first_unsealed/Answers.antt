@@ -1,4 +1,4 @@
-use Rattle.std.proofs.Common.{ℕ, inl, inr, sym, ◌∙◌, ap, arith, subst, ◌≡◌}
+use Rattle.std.proofs.Common.{ℕ, inl, inr, sym, ◌∙◌, ap, arith, subst, ◌≡◌, le_antisymm}
 use Rattle.std.proofs.lemmas.Bool.{cases_eq, false≢true}
 use Rattle.std.proofs.lemmas.Result.{err_from_is_err_and}
 use borrow.Author.Count.{below_none}
@@ -12,7 +12,7 @@ use Rattle.fl_rules.specs.Marks.{kept_page}
 use Rattle.fl_flash.specs.Flash.{page_at}
 use Rattle.fl_rules.specs.Claims.{AllBelow}
 use Rattle.fl_rules.specs.States.{IsSealed}
-use Rattle.fl_rules.proofs.OneMorePage.{one_read, read_fails, some_back, few_back, all_below, look_room, state_read}
+use Rattle.fl_rules.proofs.OneMorePage.{one_read, read_fails, some_back, few_back, look_room, state_read}
 use Rattle.fl_rules.proofs.rule_2_state.first_unsealed.Goals as goal
 
 pub look-requires-clause-exists : goal.look-requires-clause-exists
@@ -89,7 +89,7 @@ returns-clause-room g c = c.loop-i.invariant.room
 
 pub returns-clause-none : goal.returns-clause-none
 returns-clause-none g c = λ told. subst (λ (k : ℕ). AllBelow (IsSealed (page_at (g.F.Flash.state c.args.flash.now)) (shape_of c.args.ring.now) c.args.m) k)
-    (all_below c.loop-i.auto.i-end c.loop-i-test.false) (c.loop-i.invariant.sealed told)
+    (le_antisymm c.loop-i.auto.i-end c.loop-i-test.false) (c.loop-i.invariant.sealed told)
 
 pub look-requires-clause-room : goal.look-requires-clause-room
 look-requires-clause-room g c = look_room c.args.ring.now (g.F.Flash.state c.args.flash.now) (g.F.Flash.state c.loop-i.flash) c.loop-i.i _ c.requires.lies c.loop-i.invariant.reads c.loop-i.invariant.room

@@ -2,12 +2,12 @@ use Rattle.std.proofs.Common.{ℕ, ◌+◌, ◌%◌, ◌≡◌, refl, sym, ◌�
 use Rattle.fl_rules.specs.declared.rule.Rule.TheVariants.{Number}
 use Rattle.fl_rules.specs.Numbers.{IsLeft, HaveNumbers}
 use Rattle.fl_rules.specs.Stop.{breach}
-use Rattle.fl_rules.proofs.Stops.{if_ok, if_at}
+use Rattle.fl_rules.proofs.Stops.{if_at}
 use Rattle.fl_flash.specs.Flash.{page_at}
 use Rattle.fl_ring.specs.Place.{shape_of}
 use Rattle.fl_ring.specs.Ring.{room}
 use Rattle.fl_rules.proofs.NumbersOfRing.{all_for, misnumbered_for, numbers_for, too_great_for}
-use Rattle.std.proofs.lemmas.Result.{err_from_is_err_and}
+use Rattle.std.proofs.lemmas.Result.{err_from_is_err_and, IfOk-weaker}
 use Rattle.std.proofs.lemmas.Option.{MatchOption-at_some}
 use Rattle.fl_frame.proofs.ReadsInTurn.{none_read}
 use Rattle.fl_rules.proofs.OneMorePage.{some_back, few_back}
@@ -38,7 +38,7 @@ returns-in-None-clause-numbers g c =
     let next = c.from.result + c.from-2.result in
     let e : next ≡ newest.number + newest.back = omega (arith, c.from.ensures, c.from-2.ensures) in
     let fits : newest.number % room r ≡ _ = ap (λ (k : ℕ). newest.number % k) (sym c.room.ensures.pages) ∙ c.if-newest-room.false ∙ c.back_from.ensures.place in
-    if_ok _ _ c.number_left.result
+    IfOk-weaker c.number_left.result _ _
     (λ n left told newest_is. subst (λ (k : ℕ). HaveNumbers f r m c.args.at_least k) (sym left.0)
     (numbers_for f r m c.args.at_least newest next e newest_is fits (all_for f r m next c.in_ok-misnumbered.misnumbered (c.in_ok-misnumbered.ensures.none told) c.in-None.is) left.1))
     c.number_left.ensures.next

@@ -1,5 +1,5 @@
-use Rattle.std.proofs.Common.{ℕ, List, Some, None, refl, sym, subst, ◌+◌}
-use Rattle.std.proofs.lemmas.Result.{err_from_is_err_and, IfErr-weaker}
+use Rattle.std.proofs.Common.{ℕ, List, Some, None, refl, sym, subst, ◌+◌, le-add_right}
+use Rattle.std.proofs.lemmas.Result.{err_from_is_err_and, IfErr-weaker, IfOk-weaker}
 use Rattle.fl_flash.specs.Flash.{page_at}
 use Rattle.fl_ring.specs.Place.{shape_of}
 use Rattle.fl_ring.proofs.Founds.{same_pages}
@@ -8,12 +8,11 @@ use Rattle.fl_rules.specs.Numbers.{NewestOf, next_of, IsLeft, HaveNumbers, Numbe
 use Rattle.fl_rules.specs.Stop.{breach, IfFlash}
 use Rattle.fl_rules.specs.declared.rule.Rule.TheVariants.{Number}
 use Rattle.fl_rules.proofs.NumbersOfRing.{newest_some, newest_none, spent_for}
-use Rattle.fl_rules.proofs.Stops.{if_ok, if_broken, if_at}
+use Rattle.fl_rules.proofs.Stops.{if_broken, if_at}
 use Rattle.fl_frame.specs.Causes.{ReadFails}
 use Rattle.fl_ring.proofs.Exists.{lies_still}
 use Rattle.fl_ring.proofs.ReadsInTurn.{fewer_reads}
 use Rattle.fl_rules.proofs.Results.{flash_so}
-use Rattle.fl_rules.proofs.OneMorePage.{more_of}
 use Rattle.fl_rules.proofs.LooksChangeNothing.{fails_later}
 use Rattle.std.proofs.lemmas.Option.{MatchOption-at_some}
 use Rattle.fl_rules.proofs.rule_3_number.check_numbers.Goals as goal
@@ -26,7 +25,7 @@ returns-in-Some-clause-numbers g c =
     let m = c.args.m in
     let reads = c.find_newest.ensures.reads in
     let same = same_pages f second m.kept reads in
-    if_ok _ _ c.check_by.result
+    IfOk-weaker c.check_by.result _ _
     (λ next numbers told. subst (λ (page : ℕ → List ℕ). HaveNumbers page r m c.args.at_least next) same
     (numbers (told_still f second m.kept reads told)
     (subst (λ (page : ℕ → List ℕ). NewestOf page r m (Some c.in-Some.newest)) (sym same) (newest_some (page_at f) r m c.in_ok-newest.newest c.in-Some.newest c.in-Some.is (c.in_ok-newest.ensures.newest told)))))
@@ -68,7 +67,7 @@ pub find_newest-requires-clause-few : goal.find_newest-requires-clause-few
 find_newest-requires-clause-few g c = c.requires.within.kept
 
 pub returns-in_err-newest-clause-reads : goal.returns-in_err-newest-clause-reads
-returns-in_err-newest-clause-reads g c = fewer_reads (g.F.Flash.state c.args.flash.now) (g.F.Flash.state c.find_newest.new.flash) c.args.m.kept (c.args.m.kept + c.args.m.kept) c.find_newest.ensures.reads (more_of c.args.m.kept c.args.m.kept)
+returns-in_err-newest-clause-reads g c = fewer_reads (g.F.Flash.state c.args.flash.now) (g.F.Flash.state c.find_newest.new.flash) c.args.m.kept (c.args.m.kept + c.args.m.kept) c.find_newest.ensures.reads (le-add_right c.args.m.kept c.args.m.kept)
 
 pub returns-in_err-newest-clause-room : goal.returns-in_err-newest-clause-room
 returns-in_err-newest-clause-room g c = c.find_newest.ensures.room
@@ -112,7 +111,7 @@ returns-in-Some-clause-fails g c =
     (λ stop. flash_so (λ e. ReadFails second e last) (λ e. ReadFails f e last) stop (λ e. fails_later f second last e (looks_by f second c.args.m.kept c.find_newest.ensures.reads))) c.check_by.ensures.fails
 
 pub returns-in-None-clause-reads : goal.returns-in-None-clause-reads
-returns-in-None-clause-reads g c = fewer_reads (g.F.Flash.state c.args.flash.now) (g.F.Flash.state c.find_newest.new.flash) c.args.m.kept (c.args.m.kept + c.args.m.kept) c.find_newest.ensures.reads (more_of c.args.m.kept c.args.m.kept)
+returns-in-None-clause-reads g c = fewer_reads (g.F.Flash.state c.args.flash.now) (g.F.Flash.state c.find_newest.new.flash) c.args.m.kept (c.args.m.kept + c.args.m.kept) c.find_newest.ensures.reads (le-add_right c.args.m.kept c.args.m.kept)
 
 pub returns-in-None-clause-room : goal.returns-in-None-clause-room
 returns-in-None-clause-room g c = c.find_newest.ensures.room

@@ -1,4 +1,4 @@
-use Rattle.std.proofs.Common.{◌≡◌, ◌-◌, ◌≤◌, refl, sym, ◌∙◌, ap, arith, ℕ, subst, ◌+◌, ◌*◌, ◌^◌, ◌<◌}
+use Rattle.std.proofs.Common.{◌≡◌, ◌-◌, ◌≤◌, refl, sym, ◌∙◌, ap, arith, ℕ, subst, ◌+◌, ◌*◌, ◌^◌, ◌<◌, le_antisymm}
 use Rattle.std.proofs.lemmas.Bool.{false≢true}
 use Rattle.std.proofs.lemmas.Result.{err_from_is_err_and}
 use Rattle.fl_ring.proofs.Exists.{page_exists}
@@ -9,7 +9,7 @@ use Rattle.fl_ring.specs.Looking.{state_at}
 use Rattle.fl_ring.specs.Newest.{commits, number_of}
 use Rattle.fl_frame.proofs.ReadsInTurn.{more_reads, no_reads}
 use Rattle.fl_rules.specs.Marks.{kept_page}
-use Rattle.fl_rules.proofs.OneMorePage.{one_read, read_fails, some_back, few_back, no_read, bytes_read, state_read, all_below, look_room, number_long}
+use Rattle.fl_rules.proofs.OneMorePage.{one_read, read_fails, some_back, few_back, no_read, bytes_read, state_read, look_room, number_long}
 use Rattle.fl_rules.proofs.OwnNumbers.{all_numbered, one_numbered, its_own, too_low, not_own, own_told}
 use Rattle.fl_rules.specs.Claims.{AllBelow}
 use Rattle.fl_rules.specs.Numbers.{HasItsNumber}
@@ -130,7 +130,7 @@ returns-clause-reads g c = fewer_reads (g.F.Flash.state c.args.flash.now) (g.F.F
 
 pub returns-clause-none : goal.returns-clause-none
 returns-clause-none g c = λ told. subst (λ (k : ℕ). AllBelow (HasItsNumber (page_at (g.F.Flash.state c.args.flash.now)) (shape_of c.args.ring.now) c.args.m c.args.next) k)
-    (all_below c.loop-i.auto.i-end c.loop-i-test.false) (c.loop-i.invariant.numbered told)
+    (le_antisymm c.loop-i.auto.i-end c.loop-i-test.false) (c.loop-i.invariant.numbered told)
 
 pub returns-then-from-next-clause-some : goal.returns-then-from-next-clause-some
 returns-then-from-next-clause-some g c =

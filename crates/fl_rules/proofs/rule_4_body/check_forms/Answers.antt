@@ -1,7 +1,7 @@
-use Rattle.std.proofs.Common.{refl}
+use Rattle.std.proofs.Common.{refl, le_of_lt}
 use Rattle.std.proofs.lemmas.Result.{err_from_is_err_and}
 use Rattle.std.proofs.lemmas.Option.{MatchOption-at_some, MatchOption-at_none}
-use Rattle.fl_rules.proofs.OneMorePage.{some_back, few_back, under}
+use Rattle.fl_rules.proofs.OneMorePage.{some_back, few_back}
 use Rattle.fl_rules.proofs.rule_4_body.check_forms.Goals as goal
 
 pub first_unformed-requires-clause-lies : goal.first_unformed-requires-clause-lies
@@ -82,4 +82,4 @@ pub returns-in-None-clause-fails : goal.returns-in-None-clause-fails
 returns-in-None-clause-fails g c = tt
 
 pub overflow_sub-n : goal.overflow_sub-n
-overflow_sub-n g c = under (MatchOption-at_some _ _ c.in-Some.i c.in-Some.is c.in_ok-unformed.ensures.within)
+overflow_sub-n g c = le_of_lt (MatchOption-at_some _ _ c.in-Some.i c.in-Some.is c.in_ok-unformed.ensures.within)

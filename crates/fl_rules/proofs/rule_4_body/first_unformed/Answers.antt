@@ -1,4 +1,4 @@
-use Rattle.std.proofs.Common.{refl, ◌∙◌, ◌≡◌, ℕ, ◌+◌, ◌-◌, List, sym, ap, subst, arith}
+use Rattle.std.proofs.Common.{refl, ◌∙◌, ◌≡◌, ℕ, ◌+◌, ◌-◌, List, sym, ap, subst, arith, le-add_right, le_antisymm}
 use Rattle.std.proofs.lemmas.Result.{err_from_is_err_and}
 use Rattle.std.proofs.lemmas.Bool.{false≢true}
 use Rattle.fl_ring.proofs.Exists.{page_exists}
@@ -6,7 +6,7 @@ use Rattle.fl_ring.proofs.ReadsInTurn.{fewer_reads, mark_fits}
 use Rattle.fl_flash.specs.Flash.{page_at}
 use Rattle.fl_ring.specs.Place.{shape_of}
 use Rattle.fl_frame.proofs.ReadsInTurn.{no_reads, more_reads}
-use Rattle.fl_rules.proofs.OneMorePage.{one_read, read_fails, some_back, few_back, bytes_read, state_read, more_of, all_below, look_room, page_long, page_brief}
+use Rattle.fl_rules.proofs.OneMorePage.{one_read, read_fails, some_back, few_back, bytes_read, state_read, look_room, page_long, page_brief}
 use Rattle.fl_rules.proofs.OneMoreBody.{all_formed, one_formed, not_due, formed, not_committed, unformed}
 use Rattle.fl_ring.specs.Looking.{state_at}
 use Rattle.fl_ring.specs.Newest.{commits}
@@ -77,7 +77,7 @@ loop-i-preserved-in_default g c =
     let r = shape_of c.args.ring.now in
     let i = c.loop-i.i in
     record {
-      reads = fewer_reads f (g.F.Flash.state c.loop-i.flash) i (i + 1) c.loop-i.invariant.reads (more_of i 1);
+      reads = fewer_reads f (g.F.Flash.state c.loop-i.flash) i (i + 1) c.loop-i.invariant.reads (le-add_right i 1);
       room = c.loop-i.invariant.room;
       formed = λ told. one_formed holds (page_at f) r c.args.n i (c.loop-i.invariant.formed told) (not_due holds (page_at f) r c.args.n i c.in_default.ensures);
     }
@@ -137,7 +137,7 @@ returns-clause-reads g c = fewer_reads (g.F.Flash.state c.args.flash.now) (g.F.F
 
 pub returns-clause-none : goal.returns-clause-none
 returns-clause-none g c = λ told. subst (λ (k : ℕ). AllBelow (HasBody (g.B.Form.holds c.args.form.now) (page_at (g.F.Flash.state c.args.flash.now)) (shape_of c.args.ring.now) c.args.n) k)
-    (all_below c.loop-i.auto.i-end c.loop-i-test.false) (c.loop-i.invariant.formed told)
+    (le_antisymm c.loop-i.auto.i-end c.loop-i-test.false) (c.loop-i.invariant.formed told)
 
 pub look-requires-clause-room : goal.look-requires-clause-room
 look-requires-clause-room g c = look_room c.args.ring.now (g.F.Flash.state c.args.flash.now) (g.F.Flash.state c.loop-i.flash) c.loop-i.i _ c.requires.lies c.loop-i.invariant.reads c.loop-i.invariant.room

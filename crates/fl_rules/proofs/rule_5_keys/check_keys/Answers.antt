@@ -1,4 +1,4 @@
-use Rattle.std.proofs.Common.{rules, ℕ, IsTrue, ◌∙◌, ap, refl, subst}
+use Rattle.std.proofs.Common.{rules, ℕ, IsTrue, ◌∙◌, ap, refl, subst, le_antisymm}
 use Rattle.std.proofs.lemmas.Result.{err_from_is_err_and}
 use borrow.Author.Count.{below_none}
 use Rattle.fl_flash.specs.Flash.{page_at}
@@ -7,7 +7,7 @@ use Rattle.fl_ring.proofs.Exists.{page_exists}
 use Rattle.fl_frame.proofs.ReadsInTurn.{more_reads, same_page, told_still, no_reads}
 use Rattle.fl_schema.specs.Schema.{layout_of}
 use Rattle.fl_rules.proofs.LastKeys.{last_for, rise_more, falls_for}
-use Rattle.fl_rules.proofs.OneMorePage.{one_read, read_fails, some_back, few_back, look_room, header_long, all_below}
+use Rattle.fl_rules.proofs.OneMorePage.{one_read, read_fails, some_back, few_back, look_room, header_long}
 use Rattle.fl_ring.proofs.ReadsInTurn.{mark_fits, fewer_reads}
 use Rattle.fl_rules.specs.Claims.{AllBelow}
 use Rattle.fl_rules.specs.Rising.{Rises}
@@ -117,7 +117,7 @@ returns-clause-reads g c = fewer_reads (g.F.Flash.state c.args.flash.now) (g.F.F
 pub returns-clause-keys : goal.returns-clause-keys
 returns-clause-keys g c =
     λ told. subst (λ (k : ℕ). AllBelow (Rises (layout_of c.args.schema.now) (page_at (g.F.Flash.state c.args.flash.now)) (shape_of c.args.ring.now) c.args.m) k)
-    (all_below c.loop-i.auto.i-end c.loop-i-test.false) (c.loop-i.invariant.rise told)
+    (le_antisymm c.loop-i.auto.i-end c.loop-i-test.false) (c.loop-i.invariant.rise told)
 
 pub overflow_sub-m : goal.overflow_sub-m
 overflow_sub-m g c = c.loop-i.auto.i-end

@@ -1,9 +1,8 @@
 use Rattle.std.proofs.lemmas.Result.{err_from_is_err_and}
-use Rattle.std.proofs.Common.{inl, arith, ◌≡◌, ℕ, ◌+◌, ◌-◌, ◌<◌, ◌≤◌, refl, sym, subst, inr}
+use Rattle.std.proofs.Common.{inl, arith, ◌≡◌, ℕ, ◌+◌, ◌-◌, ◌<◌, ◌≤◌, refl, sym, subst, inr, le_of_lt}
 use Rattle.fl_ring.specs.Place.{shape_of}
 use Rattle.fl_ring.specs.Ring.{room}
 use Rattle.fl_ring.proofs.ReadsInTurn.{fewer_reads}
-use Rattle.fl_rules.proofs.OneMorePage.{under}
 use Rattle.std.proofs.lemmas.Option.{MatchOption-at_some, MatchOption-at_none}
 use Rattle.fl_frame.proofs.ReadsInTurn.{none_read}
 use Rattle.fl_flash.specs.Flash.{page_at}
@@ -97,10 +96,10 @@ pub may_wait-requires : goal.may_wait-requires
 may_wait-requires g c = record { within = c.requires.within }
 
 pub overflow_sub-from : goal.overflow_sub-from
-overflow_sub-from g c = subst (λ (k : ℕ). c.args.m.pages.front.sealed ≤ k) (sym c.per_block.ensures.pages) (under c.requires.within.sealed)
+overflow_sub-from g c = subst (λ (k : ℕ). c.args.m.pages.front.sealed ≤ k) (sym c.per_block.ensures.pages) (le_of_lt c.requires.within.sealed)
 
 pub overflow_sub-room : goal.overflow_sub-room
-overflow_sub-room g c = subst (λ (k : ℕ). c.args.m.kept ≤ k) (sym c.room.ensures.pages) (under c.requires.within.kept)
+overflow_sub-room g c = subst (λ (k : ℕ). c.args.m.kept ≤ k) (sym c.room.ensures.pages) (le_of_lt c.requires.within.kept)
 
 pub first_written-requires-clause-ordered : goal.first_written-requires-clause-ordered
 first_written-requires-clause-ordered g c = rest-ordered c.args.m.kept c.args.m.pages.front.sealed c.per_block.ensures.pages c.room.ensures.pages c.requires.within.few

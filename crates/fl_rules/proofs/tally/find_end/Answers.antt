@@ -1,4 +1,4 @@
-use Rattle.std.proofs.Common.{◌≡◌, ℕ, List, sym, ◌∙◌, ap, refl}
+use Rattle.std.proofs.Common.{◌≡◌, ℕ, List, sym, ◌∙◌, ap, refl, le_antisymm}
 use Rattle.std.proofs.lemmas.Result.{err_from_is_err_and}
 use Rattle.fl_flash.specs.Flash.{page_at}
 use Rattle.fl_ring.specs.Place.{shape_of}
@@ -8,7 +8,7 @@ use Rattle.fl_frame.proofs.ReadsInTurn.{more_reads, same_page, told_still, no_re
 use Rattle.fl_rules.specs.Marks.{kept_page}
 use Rattle.fl_rules.specs.Tally.{listed_after, listed_to}
 use Rattle.fl_rules.proofs.Tallies.{listed_next}
-use Rattle.fl_rules.proofs.OneMorePage.{one_read, read_fails, some_back, few_back, look_room, page_long, all_below}
+use Rattle.fl_rules.proofs.OneMorePage.{one_read, read_fails, some_back, few_back, look_room, page_long}
 use Rattle.fl_rules.proofs.tally.find_end.Goals as goal
 
 pub look-requires-clause-exists : goal.look-requires-clause-exists
@@ -78,7 +78,7 @@ pub end_after-end-requires : goal.end_after-end-requires
 end_after-end-requires g c = page_long c.bytes.result.now c.look.new.buf.bytes c.bytes.ensures (c.look.ensures.room ∙ c.loop-i.invariant.room) c.args.ring.now.served.size
 
 pub returns-clause-end : goal.returns-clause-end
-returns-clause-end g c = λ told. c.loop-i.invariant.end told ∙ ap (listed_to c.args.per_page (page_at (g.F.Flash.state c.args.flash.now)) (shape_of c.args.ring.now) c.args.m) (all_below c.loop-i.auto.i-end c.loop-i-test.false)
+returns-clause-end g c = λ told. c.loop-i.invariant.end told ∙ ap (listed_to c.args.per_page (page_at (g.F.Flash.state c.args.flash.now)) (shape_of c.args.ring.now) c.args.m) (le_antisymm c.loop-i.auto.i-end c.loop-i-test.false)
 
 pub returns-clause-fails : goal.returns-clause-fails
 returns-clause-fails g c = tt

@@ -1,4 +1,4 @@
-use Rattle.std.proofs.Common.{◌≡◌, ℕ, List, sym, ◌∙◌, ap, subst, arith}
+use Rattle.std.proofs.Common.{◌≡◌, ℕ, List, sym, ◌∙◌, ap, subst, arith, le_antisymm}
 use Rattle.fl_flash.specs.Flash.{page_at}
 use Rattle.fl_ring.specs.Place.{shape_of}
 use Rattle.fl_ring.proofs.Exists.{page_exists}
@@ -11,7 +11,7 @@ use Rattle.fl_rules.specs.Tally.{with_page, tally_of}
 use Rattle.fl_rules.specs.declared.tally.Tally.{Tally}
 use Rattle.fl_rules.proofs.Tallies.{tally_next}
 use Rattle.std.proofs.lemmas.Result.{err_from_is_err_and}
-use Rattle.fl_rules.proofs.OneMorePage.{one_read, read_fails, some_back, few_back, look_room, page_long, page_short, all_below, none_least}
+use Rattle.fl_rules.proofs.OneMorePage.{one_read, read_fails, some_back, few_back, look_room, page_long, page_short, none_least}
 use Rattle.fl_rules.proofs.Rooms.{next_small, sum_small, count_left}
 use Rattle.fl_rules.proofs.tally.tally_pages.Goals as goal
 
@@ -88,7 +88,7 @@ pub with_page-tally-requires-clause-short : goal.with_page-tally-requires-clause
 with_page-tally-requires-clause-short g c = page_short c.bytes.result.now c.look.new.buf.bytes c.bytes.ensures (c.look.ensures.room ∙ c.loop-i.invariant.room) c.args.ring.now.small_pages
 
 pub returns-clause-tally : goal.returns-clause-tally
-returns-clause-tally g c = λ told have. c.loop-i.invariant.tally told have ∙ ap (tally_of (layout_of c.args.schema.now) (page_at (g.F.Flash.state c.args.flash.now)) (shape_of c.args.ring.now) c.args.m) (all_below c.loop-i.auto.i-end c.loop-i-test.false)
+returns-clause-tally g c = λ told have. c.loop-i.invariant.tally told have ∙ ap (tally_of (layout_of c.args.schema.now) (page_at (g.F.Flash.state c.args.flash.now)) (shape_of c.args.ring.now) c.args.m) (le_antisymm c.loop-i.auto.i-end c.loop-i-test.false)
 
 pub loop-i-init : goal.loop-i-init
 loop-i-init g c =

@@ -1,9 +1,10 @@
 use Rattle.std.proofs.Common.{◌≡◌, ℕ, ◌+◌, ◌≤◌, ◌++◌, None, Some, List, length, drop, slice_range, sym, ◌∙◌, ap, subst, arith, rules}
 use Rattle.std.proofs.lemmas.List.{take_at, take_rest}
 use Rattle.fl_salvage.specs.Blobs.{content_at, content_room}
-use Rattle.fl_salvage.proofs.MediaOnlyRead.{looks-then, tells-on, unread-later}
+use Rattle.fl_salvage.proofs.MediaOnlyRead.{tells-on, unread-later}
 use Rattle.fl_salvage.proofs.Pieces.{length-range, piece-none, piece-behind, piece-last, piece-short, piece-next}
 use Rattle.std.proofs.lemmas.Result.{err_from_is_err_and}
+use Rattle.fl_image.proofs.MediaLooks.{looks-then}
 use Rattle.fl_salvage.proofs.blob.take_blob.Goals as goal
 
 pub returns-in_default-clause-gone : goal.returns-in_default-clause-gone

@@ -1,5 +1,5 @@
 use Rattle.std.proofs.Common.{◌≡◌, ℕ, ◌≤◌, ◌-◌, List, Some, length}
-use Rattle.fl_salvage.proofs.SourceToEnd.{SoFar}
+use Rattle.fl_base.proofs.SourceToEnd.{SoFar}
 use Rattle.fl_salvage.proofs.config.read_text.Given as goal
 
 abbrev pub invariant-bytes : goal.invariant-bytes

@@ -1,12 +1,13 @@
 use Rattle.std.proofs.Common.{List, ℕ, ◌∙◌, ap, subst}
 use Rattle.std.proofs.lemmas.Result.{err_from_is_err_and}
 use Rattle.fl_base.specs.Causes.{Appends, AppendsFront}
+use Rattle.fl_base.proofs.Appended.{front-none}
 use Rattle.fl_csv.specs.Views.{blob_view}
 use Rattle.fl_schema.specs.Schema.{row_of}
 use Rattle.fl_script.proofs.SinkPieces.{written-err}
 use Rattle.fl_salvage.specs.Line.{told_of_found}
 use Rattle.fl_salvage.specs.Text.{blob_told, form_of}
-use Rattle.fl_salvage.proofs.Lines.{front-none, line-is}
+use Rattle.fl_salvage.proofs.Lines.{line-is}
 use Rattle.fl_salvage.proofs.MediaOnlyRead.{line-caused, unread-caused}
 use Rattle.fl_salvage.proofs.line.write_row.Goals as goal
 

@@ -3,8 +3,9 @@ use Rattle.fl_salvage.specs.Pages.{AreFew, found_at, page_of}
 use Rattle.fl_salvage.specs.declared.passed_over.PassedOver.{PassedOver}
 use Rattle.fl_schema.specs.Schema.{layout_of}
 use Rattle.fl_salvage.proofs.CountedPages.{few-none, numbers-next, passed-next}
-use Rattle.fl_salvage.proofs.MediaOnlyRead.{looks-same, looks-then, tells-on, unread-later}
+use Rattle.fl_salvage.proofs.MediaOnlyRead.{tells-on, unread-later}
 use Rattle.std.proofs.lemmas.Result.{err_from_is_err_and}
+use Rattle.fl_image.proofs.MediaLooks.{looks-same, looks-then}
 use Rattle.fl_salvage.specs.Faults.{IsUnread}
 use Rattle.fl_salvage.specs.declared.fault.SalvageFault.{SalvageFault}
 use Rattle.fl_salvage.proofs.numbers.find_numbers.Goals as goal

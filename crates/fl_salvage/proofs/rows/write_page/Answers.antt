@@ -2,6 +2,7 @@ use Rattle.std.proofs.Common.{◌≡◌, ℕ, Bool, Ok, List, length, le_refl, s
 use Rattle.std.proofs.Math.Nat.{mod-lt}
 use Rattle.std.proofs.lemmas.List.{with_items_is}
 use Rattle.std.proofs.lemmas.Result.{err_from_is_err_and, IfErr-weaker}
+use Rattle.fl_base.proofs.Appended.{front-none}
 use Rattle.fl_page.specs.Header.{page_count}
 use Rattle.fl_page.specs.Page.{IsGoodPage}
 use Rattle.fl_page.specs.View.{page_of, layout_of_page, count_of, rows_of}
@@ -10,8 +11,8 @@ use Rattle.fl_salvage.specs.Faults.{IsCaused}
 use Rattle.fl_salvage.specs.Pages.{numbered}
 use Rattle.fl_salvage.specs.Text.{form_of}
 use Rattle.fl_script.proofs.SinkPieces.{written-err}
-use Rattle.fl_salvage.proofs.Lines.{front-none}
-use Rattle.fl_salvage.proofs.MediaOnlyRead.{looks-then, tells-on, caused-later}
+use Rattle.fl_image.proofs.MediaLooks.{looks-then}
+use Rattle.fl_salvage.proofs.MediaOnlyRead.{tells-on, caused-later}
 use Rattle.fl_salvage.proofs.PageTexts.{missing-text, unformed-text, page-written}
 use Rattle.fl_salvage.proofs.rows.write_page.Goals as goal
 

@@ -3,10 +3,11 @@ use Rattle.std.proofs.lemmas.Option.{slice_get-get_or}
 use Rattle.std.proofs.lemmas.Result.{err_from_is_err_and}
 use Rattle.std.specs.List.{slice_get, slice_index}
 use Rattle.fl_base.specs.Causes.{Appends, AppendsFront}
-use Rattle.fl_script.proofs.SinkPieces.{written-err}
+use Rattle.fl_script.proofs.SinkPieces.{written-err, sent-none}
+use Rattle.fl_image.proofs.MediaLooks.{looks-same, looks-then}
 use Rattle.fl_salvage.specs.Text.{form_of, page_text}
-use Rattle.fl_salvage.proofs.Lines.{sent-none, item-failed, item-sent, all-sent}
-use Rattle.fl_salvage.proofs.MediaOnlyRead.{looks-same, looks-then, tells-on, caused-later}
+use Rattle.fl_salvage.proofs.Lines.{item-failed, item-sent, all-sent}
+use Rattle.fl_salvage.proofs.MediaOnlyRead.{tells-on, caused-later}
 use Rattle.fl_salvage.proofs.rows.write_pages.Goals as goal
 
 pub loop-i-init : goal.loop-i-init

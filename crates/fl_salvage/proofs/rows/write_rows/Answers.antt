@@ -4,10 +4,11 @@ use Rattle.fl_base.specs.Causes.{Appends, AppendsFront}
 use Rattle.fl_page.specs.View.{count_of, rows_of}
 use Rattle.fl_schema.specs.Schema.{row_of}
 use Rattle.fl_page.proofs.RowsFrom.{length-rows_from}
-use Rattle.fl_script.proofs.SinkPieces.{written-err}
+use Rattle.fl_script.proofs.SinkPieces.{written-err, sent-none}
+use Rattle.fl_image.proofs.MediaLooks.{looks-same, looks-then}
 use Rattle.fl_salvage.specs.Text.{form_of, row_text}
-use Rattle.fl_salvage.proofs.Lines.{sent-none, item-failed, item-sent, all-sent}
-use Rattle.fl_salvage.proofs.MediaOnlyRead.{looks-same, looks-then, tells-on, caused-later}
+use Rattle.fl_salvage.proofs.Lines.{item-failed, item-sent, all-sent}
+use Rattle.fl_salvage.proofs.MediaOnlyRead.{tells-on, caused-later}
 use Rattle.fl_salvage.proofs.rows.write_rows.Goals as goal
 
 pub loop-i-init : goal.loop-i-init

@@ -1,12 +1,12 @@
 use Rattle.std.proofs.Common.{◌≡◌, ℕ, List, length, sym, ◌∙◌, ap, subst}
 use Rattle.std.proofs.lemmas.List.{length-map}
 use Rattle.fl_base.specs.Causes.{Appends, AppendsFront}
+use Rattle.fl_base.proofs.Appended.{front-more}
 use Rattle.fl_csv.specs.Text.{header_text}
 use Rattle.fl_schema.specs.Schema.{layout_of, types_of}
 use Rattle.fl_schema.specs.Types.{column_of}
-use Rattle.fl_script.proofs.SinkPieces.{written-err}
+use Rattle.fl_script.proofs.SinkPieces.{written-err, written-behind}
 use Rattle.fl_salvage.specs.Text.{form_of, pages_text}
-use Rattle.fl_salvage.proofs.Lines.{front-more, written-behind}
 use Rattle.fl_salvage.proofs.rows.write_table.Goals as goal
 
 pub returns-in_err-header_line-clause-writes : goal.returns-in_err-header_line-clause-writes

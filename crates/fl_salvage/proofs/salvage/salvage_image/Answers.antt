@@ -1,13 +1,15 @@
 use Rattle.std.proofs.Common.{◌≡◌, inl, inr, Err, List, ℕ, refl, ap, subst, le_refl}
 use Rattle.fl_image.specs.declared.status.ToolStatus.{ToolStatus}
 use Rattle.fl_image.specs.declared.status.ToolStatus.TheVariants.{Device, InputRead, NoMemory, NoTable, OutWrite}
+use Rattle.fl_image.proofs.MediaLooks.{looks-same, looks-then}
 use Rattle.fl_model.specs.Record.{Plan}
 use Rattle.fl_model.proofs.Lists.{slice_get-some}
 use Rattle.std.specs.List.{slice_get}
+use Rattle.fl_base.proofs.Appended.{appends-none}
+use Rattle.fl_base.proofs.Risen.{rose-back}
 use Rattle.fl_salvage.specs.Ends.{AtEnds, form_at}
 use Rattle.fl_salvage.specs.Given.{IsOfConfig}
-use Rattle.fl_salvage.proofs.Lines.{appends-none}
-use Rattle.fl_salvage.proofs.MediaOnlyRead.{looks-same, looks-then, rose-before, tells-on}
+use Rattle.fl_salvage.proofs.MediaOnlyRead.{tells-on}
 use Rattle.fl_salvage.proofs.SalvageEnds.{if-some, table-ends, unconfigured-ends}
 use Rattle.fl_salvage.proofs.salvage.salvage_image.Goals as goal
 
@@ -116,7 +118,7 @@ pub returns-clause-counts : goal.returns-clause-counts
 returns-clause-counts g c = c.salvage_at.ensures.counts
 
 pub returns-clause-device : goal.returns-clause-device
-returns-clause-device g c = λ is. rose-before _ _ _ c.in-Ok-config_of.ensures.looks.later (c.salvage_at.ensures.device is)
+returns-clause-device g c = λ is. rose-back _ _ _ c.in-Ok-config_of.ensures.looks.later (c.salvage_at.ensures.device is)
 
 pub returns-clause-read : goal.returns-clause-read
 returns-clause-read g c = λ is. absurd (c.salvage_at.ensures.unread is)

@@ -1,10 +1,11 @@
 use Rattle.std.proofs.Common.{inl, inr, ℕ, List, le_refl, subst}
 use Rattle.std.proofs.lemmas.Result.{err_from_is_err_and}
 use Rattle.fl_base.specs.Causes.{Appends, AppendsFront}
+use Rattle.fl_base.proofs.Appended.{appends-none}
+use Rattle.fl_image.proofs.MediaLooks.{looks-same, looks-then}
 use Rattle.fl_salvage.specs.Text.{form_of, salvaged_text}
 use Rattle.fl_salvage.proofs.SalvageEnds.{err-ends}
-use Rattle.fl_salvage.proofs.Lines.{appends-none}
-use Rattle.fl_salvage.proofs.MediaOnlyRead.{tells-on, caused-later, unread-caused, looks-same, looks-then}
+use Rattle.fl_salvage.proofs.MediaOnlyRead.{tells-on, caused-later, unread-caused}
 use Rattle.fl_salvage.proofs.salvage.salvage_table.Goals as goal
 
 pub returns-in_err-rooms-clause-ends : goal.returns-in_err-rooms-clause-ends

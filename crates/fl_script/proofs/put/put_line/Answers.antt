@@ -1,8 +1,9 @@
 use Rattle.std.proofs.Common.{◌≤◌, ◌-◌, drop, ℕ, List, length, Bor, refl, sym, ap, ◌∙◌}
 use Rattle.std.proofs.lemmas.List.Elements.{All-take, All-drop}
+use Rattle.std.proofs.lemmas.Bool.{and_left}
 use Rattle.fl_words.specs.Grammar as grammar
 use Rattle.fl_script.proofs.Puts.{put_as, too_many, two_and_more}
-use Rattle.fl_script.proofs.Steps.{no_form, not_first, with_part, no_part, on, stops, fails}
+use Rattle.fl_script.proofs.Steps.{no_form, with_part, no_part, on, stops, fails}
 use Rattle.fl_script.proofs.put.put_line.Goals as goal
 
 abbrev IsShort : Bor (List ℕ) → Type 0
@@ -14,7 +15,7 @@ decode_blob-requires-clause-short c = c.blob_split.ensures.short (All-take IsSho
 pub returns-in_err-name-clause-command : goal.returns-in_err-name-clause-command
 returns-in_err-name-clause-command c =
     fails _ _ _ _ c.from_residual.ensures.1 c.in_err-name.ensures.1
-    (ap grammar.put_line (two_and_more c.args.words.now c.in-len2-up.len_at_least) ∙ no_form _ (not_first _ c.in_err-name.ensures.0))
+    (ap grammar.put_line (two_and_more c.args.words.now c.in-len2-up.len_at_least) ∙ no_form _ (and_left _ _ c.in_err-name.ensures.0))
 
 pub returns-then-values-gt16-clause-command : goal.returns-then-values-gt16-clause-command
 returns-then-values-gt16-clause-command c = sym (too_many c.args.words.now c.blob_split.result.0.now _ c.in-len2-up.len_at_least c.blob_split.ensures.split c.if-values-gt16.true)

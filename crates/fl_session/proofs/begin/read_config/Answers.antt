@@ -1,7 +1,7 @@
 use Rattle.std.proofs.Common.{arith, le_trans, sym, subst}
 use Rattle.std.proofs.lemmas.Result.{IfErr-weaker, IfOk-weaker}
+use Rattle.fl_base.proofs.Risen.{rose-back}
 use Rattle.fl_script.specs.CommandView.{command_view}
-use Rattle.fl_store.proofs.CallsInTurn.{rose-back}
 use Rattle.fl_session.specs.Begin.{IsOfScript}
 use Rattle.fl_session.proofs.ConfigLines.{configured-first, configured-more, at-command, at-end, ends-begin, ends-incomplete, ends-empty, configure-ends, finish-begins, finish-ends, finish-holds}
 use Rattle.fl_session.proofs.FailedReads.{config-read, configure-read, configure-script, numbered-on, read-failed, read-script}

@@ -1,6 +1,6 @@
 use Rattle.std.proofs.Common.{refl, arith, le_trans}
+use Rattle.fl_base.proofs.Risen.{rose-back}
 use Rattle.fl_frame.proofs.CallsInTurn.{goes-same, stays, stays-then}
-use Rattle.fl_store.proofs.CallsInTurn.{rose-back}
 use Rattle.fl_session.proofs.CausesInTurn.{caused-into, caused-next}
 use Rattle.fl_session.proofs.FailedReads.{done-write, read-commands, read-failed, read-script, script-pending, script-rows, script-write, unread}
 use Rattle.fl_session.proofs.Nexts.{runs-runnable}

@@ -1,6 +1,6 @@
 use Rattle.std.proofs.Common.{◌≡◌, ℕ, ◌+◌, true, not, ◌&&◌, IsTrue, refl, ap, sym, ◌∙◌, subst, arith, unwrap_or}
 use Rattle.fl_model.specs.Record.{RowLayout}
-use Rattle.fl_store.proofs.CallsInTurn.{rose-front, rose-back, same-plan, same-on}
+use Rattle.fl_store.proofs.CallsInTurn.{same-plan, same-on}
 use Rattle.fl_session.specs.Load.{StandsBefore, load_key, random_of}
 use Rattle.fl_store.proofs.Outsides.{outside-then}
 use Rattle.fl_session.proofs.ReplyCauses.{load-counts, when-ok}
@@ -12,6 +12,7 @@ use Rattle.fl_store.proofs.Risen.{has_risen}
 use Rattle.fl_session.proofs.LoadLines.{unbroken}
 use Rattle.fl_session.proofs.LoadReads.{media-all, media-more}
 use Rattle.std.proofs.Math.Bool.{and-true}
+use Rattle.fl_base.proofs.Risen.{rose-front, rose-back}
 use Rattle.fl_frame.proofs.CallsInTurn.{goes-same, goes-then}
 use Rattle.fl_table.specs.Causes.{put_breaks}
 use Rattle.fl_table.specs.Look.{last_key_in, layout_in}

@@ -1,4 +1,6 @@
-use Rattle.std.proofs.Common.{◌≡◌, inl, inr, [], IsTrue, Ok, Err, refl, sym, ◌∙◌, subst, le_trans}
+use Rattle.std.proofs.Common.{◌≡◌, inl, inr, [], IsTrue, Ok, Err, refl, sym, ◌∙◌, subst, le_trans, le_of_eq}
+use Rattle.fl_base.proofs.Appended.{appends-none}
+use Rattle.fl_base.proofs.Risen.{rose-back}
 use Rattle.fl_words.specs.Medium.{header}
 use Rattle.fl_model.specs.Image.{medium_len}
 use Rattle.fl_image.proofs.Made.{whole-of, makes-of}
@@ -8,17 +10,14 @@ use Rattle.fl_session.specs.Ends.{told_of, effects_of}
 use Rattle.fl_session.specs.ScriptEnds.{unsaid}
 use Rattle.fl_session.specs.CausedEach.{causes_of}
 use Rattle.fl_session.proofs.CausesInTurn.{causes-opened, causes-refused}
-use Rattle.fl_session.proofs.NextCommand.{nothing-added}
 use Rattle.fl_session.proofs.RunEnds.{begins-takes, ends-in_begin, script-over, commands-early}
 use Rattle.fl_session.proofs.Over.{ends-opened, opens-as, opens-goes, media-goes_on, ends-refused, script-refused, early-refused, make-refused, commands-words, memory-words, memory-read, memory-write, memory-make}
 use Rattle.fl_session.proofs.Rested.{new-header}
-use Rattle.fl_store.proofs.CallsInTurn.{rose-back}
-use Rattle.fl_session.proofs.CommandReplies.{no-more}
 use Rattle.fl_session.proofs.whole_run.run_script.Goals as goal
 
 pub returns-in-Err-clause-ends : goal.returns-in-Err-clause-ends
 returns-in-Err-clause-ends g c = λ text told l.
-    ends-in_begin (effects_of (told_of (g.M.Media.state c.args.media.now) (g.M.Media.state c.args.media.now) (g.S.Source.left c.read_config.new.script) (g.K.Sink.written c.args.out.now) (g.K.Sink.written c.args.out.now)) c.in-Err.status) 64 text _ c.in-Err.status (c.in-Err.ensures.ends 64 text l) (record { content = refl; written = nothing-added _ })
+    ends-in_begin (effects_of (told_of (g.M.Media.state c.args.media.now) (g.M.Media.state c.args.media.now) (g.S.Source.left c.read_config.new.script) (g.K.Sink.written c.args.out.now) (g.K.Sink.written c.args.out.now)) c.in-Err.status) 64 text _ c.in-Err.status (c.in-Err.ensures.ends 64 text l) (record { content = refl; written = appends-none _ })
 
 pub returns-in-Err-clause-script : goal.returns-in-Err-clause-script
 returns-in-Err-clause-script g c = λ text l. ends-in_begin unsaid 64 text _ c.in-Err.status (c.in-Err.ensures.ends 64 text l) tt
@@ -119,7 +118,7 @@ returns-clause-goes g c =
     opens-goes (medium_len w.0) (header w.0) (g.M.Media.state c.args.media.now) (Err c.in-Err-open_image.refusal) (g.M.Media.state c.open_image.new.media) (c.in-Err-open_image.ensures w.0 (makes-of 0 c.read_config.new.config w.0 w.1))
 
 pub returns-in_default-new-2-clause-ends : goal.returns-in_default-new-2-clause-ends
-returns-in_default-new-2-clause-ends g c = λ text told l. ((nothing-added _, inl refl), inr (begins-takes 64 text _ _ _ _ _ (c.in-Ok-read_config.ensures.begins 64 text l)))
+returns-in_default-new-2-clause-ends g c = λ text told l. ((appends-none _, inl refl), inr (begins-takes 64 text _ _ _ _ _ (c.in-Ok-read_config.ensures.begins 64 text l)))
 
 pub returns-in_default-new-2-clause-script : goal.returns-in_default-new-2-clause-script
 returns-in_default-new-2-clause-script g c = λ text l. (tt, inr (begins-takes 64 text _ _ _ _ _ (c.in-Ok-read_config.ensures.begins 64 text l)))
@@ -140,10 +139,10 @@ pub returns-in_default-clause-make : goal.returns-in_default-clause-make
 returns-in_default-clause-make g c = λ e. absurd (memory-make e)
 
 pub returns-in_default-clause-goes : goal.returns-in_default-clause-goes
-returns-in_default-clause-goes g c = record { tells = refl; faults = no-more _ _ refl }
+returns-in_default-clause-goes g c = record { tells = refl; faults = le_of_eq refl }
 
 pub returns-in_default-clause-later : goal.returns-in_default-clause-later
-returns-in_default-clause-later g c = (no-more _ _ refl, no-more _ _ refl)
+returns-in_default-clause-later g c = (le_of_eq refl, le_of_eq refl)
 
 pub returns-in_default-new-clause-words : goal.returns-in_default-new-clause-words
 returns-in_default-new-clause-words g c = memory-words
@@ -158,10 +157,10 @@ pub returns-in_default-new-clause-make : goal.returns-in_default-new-clause-make
 returns-in_default-new-clause-make g c = λ e. absurd (memory-make e)
 
 pub returns-in_default-new-clause-goes : goal.returns-in_default-new-clause-goes
-returns-in_default-new-clause-goes g c = record { tells = refl; faults = no-more _ _ refl }
+returns-in_default-new-clause-goes g c = record { tells = refl; faults = le_of_eq refl }
 
 pub returns-in_default-new-clause-later : goal.returns-in_default-new-clause-later
-returns-in_default-new-clause-later g c = (no-more _ _ refl, no-more _ _ refl)
+returns-in_default-new-clause-later g c = (le_of_eq refl, le_of_eq refl)
 
 pub returns-in_default-new-2-clause-words : goal.returns-in_default-new-2-clause-words
 returns-in_default-new-2-clause-words g c = memory-words
@@ -176,19 +175,19 @@ pub returns-in_default-new-2-clause-make : goal.returns-in_default-new-2-clause-
 returns-in_default-new-2-clause-make g c = λ e. absurd (memory-make e)
 
 pub returns-in_default-new-2-clause-goes : goal.returns-in_default-new-2-clause-goes
-returns-in_default-new-2-clause-goes g c = record { tells = refl; faults = no-more _ _ refl }
+returns-in_default-new-2-clause-goes g c = record { tells = refl; faults = le_of_eq refl }
 
 pub returns-in_default-new-2-clause-later : goal.returns-in_default-new-2-clause-later
-returns-in_default-new-2-clause-later g c = (c.read_config.ensures.later, no-more _ _ refl)
+returns-in_default-new-2-clause-later g c = (c.read_config.ensures.later, le_of_eq refl)
 
 pub returns-in-Err-clause-read : goal.returns-in-Err-clause-read
 returns-in-Err-clause-read g c = c.in-Err.ensures.read
 
 pub returns-in-Err-clause-goes : goal.returns-in-Err-clause-goes
-returns-in-Err-clause-goes g c = record { tells = refl; faults = no-more _ _ refl }
+returns-in-Err-clause-goes g c = record { tells = refl; faults = le_of_eq refl }
 
 pub returns-in-Err-clause-later : goal.returns-in-Err-clause-later
-returns-in-Err-clause-later g c = (c.read_config.ensures.later, no-more _ _ refl)
+returns-in-Err-clause-later g c = (c.read_config.ensures.later, le_of_eq refl)
 
 pub returns-in-Ok-open_image-clause-read : goal.returns-in-Ok-open_image-clause-read
 returns-in-Ok-open_image-clause-read g c = λ e. rose-back _ _ _ c.read_config.ensures.later (c.run_session.ensures.read e)
@@ -200,7 +199,7 @@ pub returns-in-Ok-open_image-clause-later : goal.returns-in-Ok-open_image-clause
 returns-in-Ok-open_image-clause-later g c = (le_trans c.read_config.ensures.later c.run_session.ensures.later.0, c.run_session.ensures.later.1)
 
 pub returns-clause-later : goal.returns-clause-later
-returns-clause-later g c = (c.read_config.ensures.later, no-more _ _ refl)
+returns-clause-later g c = (c.read_config.ensures.later, le_of_eq refl)
 
 pub run_session-requires-clause-whole : goal.run_session-requires-clause-whole
 run_session-requires-clause-whole g c = c.in-Ok-read_config.ensures.whole

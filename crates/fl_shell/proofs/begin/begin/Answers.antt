@@ -1,14 +1,15 @@
-use Rattle.std.proofs.Common.{sym, subst}
+use Rattle.std.proofs.Common.{sym, subst, ◌∙◌}
+use Rattle.std.proofs.lemmas.List.{nil_from_length}
 use Rattle.fl_words.specs.Grammar.{lines_of}
 use Rattle.fl_shell.specs.Leading.{BeginsAs}
 use Rattle.fl_shell.specs.Reading.{rest_in}
-use Rattle.fl_shell.proofs.Header.{empty-at, header-begins, some-at}
+use Rattle.fl_shell.proofs.Header.{header-begins, some-at}
 use Rattle.fl_shell.proofs.InputEnds.{header-input, leads-input}
 use Rattle.fl_shell.proofs.begin.begin.Goals as goal
 
 pub returns-then-len-eq0-clause-begins : goal.returns-then-len-eq0-clause-begins
 returns-then-len-eq0-clause-begins g c = λ left total tells told within short.
-    let empty = empty-at (g.M.Media.state c.args.media.now).content c.len.result c.len.ensures c.if-len-eq0.true in
+    let empty = nil_from_length (g.M.Media.state c.args.media.now).content (sym c.len.ensures ∙ c.if-len-eq0.true) in
     subst (λ content. BeginsAs content (lines_of (rest_in c.args.lines.now left)) total c.of_lines.result c.of_lines.new.lines (g.S.Source.left c.of_lines.new.input) (g.K.Sink.written c.args.out.now) (g.K.Sink.written c.of_lines.new.out)) (sym empty)
     (c.of_lines.ensures.leads left total told within)
 

@@ -2,6 +2,7 @@ use Rattle.std.proofs.Common.{◌≡◌, ◌∙◌, IsTrue, Ok, Err, true, false
 use Rattle.std.proofs.Math.Nat.{le_refl}
 use Rattle.std.proofs.lemmas.Bool.{false≢true}
 use Rattle.fl_base.specs.declared.stream.SinkFailed.{SinkFailed}
+use Rattle.fl_base.proofs.Risen.{rose-back}
 use Rattle.fl_words.specs.Grammar.{lines_of}
 use Rattle.fl_config.specs.Whole.{is_whole}
 use Rattle.fl_shell.specs.Begin.{Ends, LeadsBy, step_of}
@@ -9,7 +10,6 @@ use Rattle.fl_shell.specs.Statuses.{IsOfLines}
 use Rattle.fl_shell.specs.Leading.{LeadsAs, TakesBy}
 use Rattle.fl_shell.specs.declared.begin.Step as code
 use Rattle.fl_shell.specs.Reading.{AsksNext, rest_in}
-use Rattle.fl_shell.proofs.CompleteEnds.{rose-after}
 use Rattle.fl_shell.proofs.FailedReads.{fewer-left, ok-err, reading-lines, reading-rose, reading-write, same-err, unconfigured-read, unconfigured-write, written-read}
 use Rattle.fl_shell.proofs.LeadingLines.{LedSoFar, LedToLine, led-first, led-next, led-more, led-into, led-ends, led-ended, led-unended, led-failed}
 use Rattle.fl_shell.proofs.begin.of_lines.Goals as goal
@@ -211,7 +211,7 @@ pub returns-in-Err-take_line-clause-read : goal.returns-in-Err-take_line-clause-
 returns-in-Err-take_line-clause-read g c = λ e. absurd (written-read (same-err _ _ _ refl e))
 
 pub returns-in-Err-take_line-clause-write : goal.returns-in-Err-take_line-clause-write
-returns-in-Err-take_line-clause-write g c = λ e. rose-after _ _ _ c.lines.invariant.sink_later c.in-Err-take_line.ensures.cause.failed
+returns-in-Err-take_line-clause-write g c = λ e. rose-back _ _ _ c.lines.invariant.sink_later c.in-Err-take_line.ensures.cause.failed
 
 pub returns-in-Err-take_line-clause-later : goal.returns-in-Err-take_line-clause-later
 returns-in-Err-take_line-clause-later g c = (le_trans c.lines.invariant.source_later c.next_line.ensures.later, le_trans c.lines.invariant.sink_later c.take_line.ensures.cause.later)

@@ -1,6 +1,6 @@
 use Rattle.std.proofs.Common.{◌++◌, codes}
+use Rattle.fl_base.proofs.Chains.{more}
 use Rattle.fl_sizing.specs.Text.{figure_line}
-use Rattle.fl_sizing.proofs.Chains.{more}
 use Rattle.fl_shell.proofs.describe.add_counts.Goals as goal
 
 pub returns-clause-text : goal.returns-clause-text

@@ -1,7 +1,7 @@
 use Rattle.std.proofs.Common.{◌≡◌, ◌*◌, ◌++◌, ℕ, codes, ap, ◌∙◌}
+use Rattle.fl_base.proofs.Chains.{more}
 use Rattle.fl_plan.specs.Plan.{plan_of_table, with_log}
 use Rattle.fl_shell.specs.Talk.{ring_text}
-use Rattle.fl_sizing.proofs.Chains.{more}
 use Rattle.fl_shell.proofs.describe.add_rings.Goals as goal
 
 pub returns-clause-text : goal.returns-clause-text

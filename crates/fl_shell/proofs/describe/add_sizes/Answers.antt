@@ -1,7 +1,7 @@
 use Rattle.std.proofs.Common.{codes, ap, sym}
+use Rattle.fl_base.proofs.Chains.{more}
 use Rattle.fl_sizing.specs.Text.{figure_line}
 use Rattle.fl_sizing.specs.declared.sizes.TableSizes.{TableSizes}
-use Rattle.fl_sizing.proofs.Chains.{more}
 use Rattle.fl_shell.proofs.describe.add_sizes.Goals as goal
 
 pub returns-clause-text : goal.returns-clause-text

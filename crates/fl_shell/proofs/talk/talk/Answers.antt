@@ -1,6 +1,7 @@
 use Rattle.std.proofs.Common.{◌≡◌, ◌^◌, Some, Ok, Err, true, false, sym, ◌∙◌, ap, le_trans, subst}
 use Rattle.std.proofs.Math.Nat.{le_refl}
 use Rattle.fl_base.specs.declared.stream.SinkFailed.{SinkFailed}
+use Rattle.fl_base.proofs.Risen.{rose-back}
 use Rattle.fl_frame.proofs.CallsInTurn.{goes-same, stays, stays-then}
 use Rattle.fl_session.specs.Execute.{StandsAlike}
 use Rattle.fl_words.specs.Grammar.{lines_of}
@@ -12,7 +13,6 @@ use Rattle.fl_shell.specs.Talking.{EndsBy, TalkEnds, with_hand}
 use Rattle.fl_shell.specs.Turning.{TurnsIf, command_for}
 use Rattle.fl_shell.proofs.CausedLines.{line-answered, line-into, lines-done, lines-failed, lines-first, lines-next}
 use Rattle.fl_shell.proofs.TalkLoop.{hand-first, hand-answered, hand-into, between-next, between-done, between-failed}
-use Rattle.fl_shell.proofs.CompleteEnds.{rose-after}
 use Rattle.fl_shell.proofs.FailedReads.{done-read, done-write, reading-rose, reading-talk, reading-write, written-read}
 use Rattle.fl_shell.proofs.InputEnds.{input-failed}
 use Rattle.fl_shell.proofs.talk.talk.Goals as goal
@@ -188,7 +188,7 @@ pub returns-in-Err-clause-read : goal.returns-in-Err-clause-read
 returns-in-Err-clause-read g c = λ e. absurd (written-read e)
 
 pub returns-in-Err-clause-write : goal.returns-in-Err-clause-write
-returns-in-Err-clause-write g c = λ e. rose-after _ _ _ c.lines.invariant.sink_later c.in-Err.ensures.cause.failed
+returns-in-Err-clause-write g c = λ e. rose-back _ _ _ c.lines.invariant.sink_later c.in-Err.ensures.cause.failed
 
 pub returns-in-Err-clause-later : goal.returns-in-Err-clause-later
 returns-in-Err-clause-later g c = (c.lines.invariant.source_later, le_trans c.lines.invariant.sink_later c.answer_in_hand.ensures.cause.later)

@@ -1,10 +1,11 @@
 use Rattle.std.proofs.Common.{inl, Ok, Err, refl, sym, ◌∙◌, ap, length, subst, le_trans}
 use Rattle.std.proofs.Math.Nat.{le_refl}
+use Rattle.fl_base.proofs.Risen.{rose-back}
 use Rattle.fl_ends.specs.declared.shell.ShellStatus.TheVariants.{NoMemory}
 use Rattle.fl_session.specs.Ends.{told_of}
 use Rattle.fl_session.proofs.Over.{media-goes_on}
 use Rattle.fl_shell.specs.Input.{InputEnds}
-use Rattle.fl_shell.proofs.CompleteEnds.{completes, completes-none, looks-early, memory-make, memory-read, memory-write, rose-after}
+use Rattle.fl_shell.proofs.CompleteEnds.{completes, completes-none, looks-early, memory-make, memory-read, memory-write}
 use Rattle.fl_shell.proofs.EarlyEnds.{begin-failed, ends-of, looks-goes, untouched}
 use Rattle.fl_shell.proofs.ShellEnds.{unread-begins, unread-few, unread-left, unread-short}
 use Rattle.fl_shell.proofs.CausedEnds.{caused-of, early-caused}
@@ -174,13 +175,13 @@ pub returns-clause-early : goal.returns-clause-early
 returns-clause-early g c = c.shell_begun.ensures.early (g.M.Media.state c.args.media.now) c.in-Ok-begin.ensures.looks
 
 pub returns-clause-read : goal.returns-clause-read
-returns-clause-read g c = λ e. rose-after _ _ _ c.in-Ok-begin.ensures.later.0 (c.shell_begun.ensures.read e)
+returns-clause-read g c = λ e. rose-back _ _ _ c.in-Ok-begin.ensures.later.0 (c.shell_begun.ensures.read e)
 
 pub returns-clause-write : goal.returns-clause-write
-returns-clause-write g c = λ e. rose-after _ _ _ c.in-Ok-begin.ensures.later.1 (c.shell_begun.ensures.write e)
+returns-clause-write g c = λ e. rose-back _ _ _ c.in-Ok-begin.ensures.later.1 (c.shell_begun.ensures.write e)
 
 pub returns-clause-make : goal.returns-clause-make
-returns-clause-make g c = λ e. rose-after _ _ _ c.in-Ok-begin.ensures.looks.later (c.shell_begun.ensures.make e)
+returns-clause-make g c = λ e. rose-back _ _ _ c.in-Ok-begin.ensures.looks.later (c.shell_begun.ensures.make e)
 
 pub returns-clause-goes : goal.returns-clause-goes
 returns-clause-goes g c = media-goes_on _ _ _ (looks-goes _ _ c.in-Ok-begin.ensures.looks) c.shell_begun.ensures.goes

@@ -2,9 +2,10 @@ use Rattle.std.proofs.Common.{IfErr, map, refl, ◌∙◌, ap, subst}
 use Rattle.fl_model.specs.Row.{stored_row}
 use Rattle.fl_frame.specs.Contents.{contents_of}
 use Rattle.fl_cursor.specs.Cursor.{IfBad, MayBeBad}
-use Rattle.fl_cursor.proofs.Selected.{all-selected, few-keys}
+use Rattle.fl_cursor.proofs.Selected.{all-selected}
 use Rattle.fl_store.proofs.TablesOnlyRead.{is-standing}
 use Rattle.fl_table.specs.declared.table.Table.{Table}
+use Rattle.fl_table.proofs.Entries.{few-keys}
 use Rattle.fl_ship.proofs.missing.first_key.Goals as goal
 
 pub returns-clause-first : goal.returns-clause-first

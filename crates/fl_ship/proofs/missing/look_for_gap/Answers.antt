@@ -3,8 +3,9 @@ use Rattle.std.proofs.lemmas.Result.{err_from_is_err_and}
 use Rattle.fl_page.proofs.ReadsInTurn.{IsCaused-later}
 use Rattle.fl_frame.proofs.ContentsInTurn.{OnlyReads-then}
 use Rattle.fl_store.proofs.TablesOnlyRead.{page-read, stands-read, tells-read}
-use Rattle.fl_ship.proofs.Gaps.{lookup-caused, looks-empty, looks-failed, looks-found, looks-lacking, looks-missing, looks-unread}
+use Rattle.fl_ship.proofs.Gaps.{looks-empty, looks-failed, looks-found, looks-lacking, looks-missing, looks-unread}
 use Rattle.fl_frame.specs.Contents.{contents_of}
+use Rattle.fl_table.proofs.Finds.{lookup-caused}
 use Rattle.fl_ship.proofs.BadPages.{find-bad, step-bad}
 use Rattle.fl_ship.proofs.missing.look_for_gap.Goals as goal
 

@@ -1,7 +1,7 @@
 use Rattle.std.proofs.Common.{Err, sym, ap, subst}
 use Rattle.std.proofs.lemmas.Result.{err_from_is_err_and}
 use Rattle.fl_image.specs.declared.status.ToolStatus.{ToolStatus}
-use Rattle.fl_store.proofs.Named.{looks-same}
+use Rattle.fl_image.proofs.MediaLooks.{looks-same}
 use Rattle.fl_ship.specs.Ends.{ShipEnds}
 use Rattle.fl_ship.specs.Fits.{StatusFits}
 use Rattle.fl_ship.specs.Media.{bytes_of}

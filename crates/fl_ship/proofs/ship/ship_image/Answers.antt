@@ -5,11 +5,12 @@ use Rattle.fl_store.proofs.Unarmed.{opened-unarmed}
 use Rattle.fl_image.specs.Image.{OnlyLooksAt}
 use Rattle.fl_image.proofs.Made.{made}
 use Rattle.fl_image.proofs.Reach.{reach}
+use Rattle.fl_image.proofs.MediaLooks.{looks-then}
 use Rattle.fl_store.specs.Store.{IsLayoutOf}
 use Rattle.fl_store.specs.Tables.{AreNewTables, IsNamed}
 use Rattle.fl_store.specs.declared.layout.Layout.{Layout}
 use Rattle.fl_store.specs.declared.tables.Tables.{Tables}
-use Rattle.fl_store.proofs.Opened.{keeps-then, looks-keeps, looks-then}
+use Rattle.fl_store.proofs.Opened.{keeps-then, looks-keeps}
 use Rattle.fl_store.proofs.ImageRepairs.{others-after, others-still, repaired-after, still-repaired}
 use Rattle.fl_store.proofs.TablesChanged.{some-is}
 use Rattle.fl_store.proofs.Worked.{held-since, worked-by, worked-image, worked-keeps, worked-others, worked-repaired, worked-rose}

@@ -2,9 +2,9 @@ use Rattle.std.proofs.Common.{◌≡◌, ℕ, ◌<◌, inl, inr, true, false, Is
 use Rattle.std.proofs.Math.Nat.{le_refl}
 use Rattle.std.proofs.lemmas.Option.{slice_get_within}
 use Rattle.fl_base.specs.declared.types.Geometry.{Geometry}
+use Rattle.fl_base.proofs.Risen.{rose-back}
 use Rattle.fl_frame.proofs.ContentsInTurn.{OnlyReads-goes}
 use Rattle.fl_frame.proofs.CallsInTurn.{goes-then}
-use Rattle.fl_store.proofs.CallsInTurn.{rose-back}
 use Rattle.fl_frame.proofs.WatchedInTurn.{unarmed-then}
 use Rattle.fl_store.specs.Store.{at_rest}
 use Rattle.fl_store.proofs.TableByName.{stands-there}
@@ -38,33 +38,29 @@ returns-in-Err-clause-ends g c = λ plans ts cs name tells c_tells on c_on calm 
     let f = g.A.Flash.state c.args.from.now in
     let m = g.A.Flash.state c.mount.new.flash in
     let has = stands-there f (λ i. false) plans c.args.sources.now.entries.items ts name c.args.at stand named in
-    let breaks = c.in-Err.ensures.ends plans ts (has_risen f m) at_rest (watched f m at_rest tells on calm) stand in
     rw c.mount_status.ensures
-    (source-fails plans ts cs name c.args.count has (g.K.Sink.written c.args.out.now) f m (g.B.Flash.state c.args.onto.now) c.mount.new.self.entries.items c.args.copies.now.entries.items c_stand c.in-Err.bad.fault c.in-Err.bad.at breaks)
+    (source-fails plans ts cs name c.args.count has (g.K.Sink.written c.args.out.now) f m (g.B.Flash.state c.args.onto.now) c.mount.new.self.entries.items c.args.copies.now.entries.items c_stand c.in-Err.bad.fault c.in-Err.bad.at (c.in-Err.ensures.ends plans ts (has_risen f m) at_rest (watched f m at_rest tells on calm) stand))
 
 pub returns-in-Err-clause-repairs : goal.returns-in-Err-clause-repairs
 returns-in-Err-clause-repairs g c = λ plans ts name tells on calm stand named well.
     let f = g.A.Flash.state c.args.from.now in
     let m = g.A.Flash.state c.mount.new.flash in
     let has = stands-there f (λ i. false) plans c.args.sources.now.entries.items ts name c.args.at stand named in
-    let breaks = c.in-Err.ensures.ends plans ts (has_risen f m) at_rest (watched f m at_rest tells on calm) stand in
-    absurd (well (c.mount_status.ensures ∙ broken-device plans ts name has f m c.mount.new.self.entries.items c.in-Err.bad.fault c.in-Err.bad.at breaks Source))
+    absurd (well (c.mount_status.ensures ∙ broken-device plans ts name has f m c.mount.new.self.entries.items c.in-Err.bad.fault c.in-Err.bad.at (c.in-Err.ensures.ends plans ts (has_risen f m) at_rest (watched f m at_rest tells on calm) stand) Source))
 
 pub returns-in-Err-clause-stands : goal.returns-in-Err-clause-stands
 returns-in-Err-clause-stands g c = λ plans ts name tells on calm stand named.
     let f = g.A.Flash.state c.args.from.now in
     let m = g.A.Flash.state c.mount.new.flash in
     let has = stands-there f (λ i. false) plans c.args.sources.now.entries.items ts name c.args.at stand named in
-    let breaks = c.in-Err.ensures.ends plans ts (has_risen f m) at_rest (watched f m at_rest tells on calm) stand in
-    broken-left plans ts name has f m c.mount.new.self.entries.items c.in-Err.bad.fault c.in-Err.bad.at breaks
+    broken-left plans ts name has f m c.mount.new.self.entries.items c.in-Err.bad.fault c.in-Err.bad.at (c.in-Err.ensures.ends plans ts (has_risen f m) at_rest (watched f m at_rest tells on calm) stand)
 
 pub returns-in-Err-clause-good : goal.returns-in-Err-clause-good
 returns-in-Err-clause-good g c = λ plans ts name table tells on calm stand named is.
     let f = g.A.Flash.state c.args.from.now in
     let m = g.A.Flash.state c.mount.new.flash in
     let has = stands-there f (λ i. false) plans c.args.sources.now.entries.items ts name c.args.at stand named in
-    let breaks = c.in-Err.ensures.ends plans ts (has_risen f m) at_rest (watched f m at_rest tells on calm) stand in
-    good-device Source Source table c.mount_status.result (c.mount_status.ensures ∙ broken-device plans ts name has f m c.mount.new.self.entries.items c.in-Err.bad.fault c.in-Err.bad.at breaks Source) is
+    good-device Source Source table c.mount_status.result (c.mount_status.ensures ∙ broken-device plans ts name has f m c.mount.new.self.entries.items c.in-Err.bad.fault c.in-Err.bad.at (c.in-Err.ensures.ends plans ts (has_risen f m) at_rest (watched f m at_rest tells on calm) stand) Source) is
 
 pub returns-in-Err-clause-device : goal.returns-in-Err-clause-device
 returns-in-Err-clause-device g c = λ is.
@@ -92,9 +88,8 @@ returns-in-Err-mount-clause-ends g c = λ plans ts cs name tells c_tells on c_on
     let n = g.B.Flash.state c.mount-2.new.flash in
     let has = stands-there f (λ i. false) plans c.args.sources.now.entries.items ts name c.args.at stand named in
     let mounted = c.in_default.ensures.ends plans ts (has_risen f m) at_rest (watched f m at_rest tells on calm) stand in
-    let breaks = c.in-Err-mount.ensures.ends plans cs (has_risen o n) at_rest (watched o n at_rest c_tells c_on c_calm) c_stand in
     rw c.mount_status-in-Err-mount.ensures
-    (copy-fails plans ts cs name c.args.count has (g.K.Sink.written c.args.out.now) f m o n c.mount.new.self.entries.items c.mount-2.new.self.entries.items mounted c.in-Err-mount.bad.fault c.in-Err-mount.bad.at breaks)
+    (copy-fails plans ts cs name c.args.count has (g.K.Sink.written c.args.out.now) f m o n c.mount.new.self.entries.items c.mount-2.new.self.entries.items mounted c.in-Err-mount.bad.fault c.in-Err-mount.bad.at (c.in-Err-mount.ensures.ends plans cs (has_risen o n) at_rest (watched o n at_rest c_tells c_on c_calm) c_stand))
 
 pub returns-in-Err-mount-clause-repairs : goal.returns-in-Err-mount-clause-repairs
 returns-in-Err-mount-clause-repairs g c = λ plans ts name tells on calm stand named well.
@@ -107,8 +102,7 @@ returns-in-Err-mount-clause-others g c = λ plans cs name tells on calm stand na
     let o = g.B.Flash.state c.args.onto.now in
     let n = g.B.Flash.state c.mount-2.new.flash in
     let has = stands-there o (λ i. false) plans c.args.copies.now.entries.items cs name c.args.at stand named in
-    let breaks = c.in-Err-mount.ensures.ends plans cs (has_risen o n) at_rest (watched o n at_rest tells on calm) stand in
-    absurd (well (c.mount_status-in-Err-mount.ensures ∙ broken-device plans cs name has o n c.mount-2.new.self.entries.items c.in-Err-mount.bad.fault c.in-Err-mount.bad.at breaks Copy))
+    absurd (well (c.mount_status-in-Err-mount.ensures ∙ broken-device plans cs name has o n c.mount-2.new.self.entries.items c.in-Err-mount.bad.fault c.in-Err-mount.bad.at (c.in-Err-mount.ensures.ends plans cs (has_risen o n) at_rest (watched o n at_rest tells on calm) stand) Copy))
 
 pub returns-in-Err-mount-clause-stands : goal.returns-in-Err-mount-clause-stands
 returns-in-Err-mount-clause-stands g c = λ plans ts name tells on calm stand named.
@@ -121,16 +115,14 @@ returns-in-Err-mount-clause-copy_stands g c = λ plans cs name tells on calm sta
     let o = g.B.Flash.state c.args.onto.now in
     let n = g.B.Flash.state c.mount-2.new.flash in
     let has = stands-there o (λ i. false) plans c.args.copies.now.entries.items cs name c.args.at stand named in
-    let breaks = c.in-Err-mount.ensures.ends plans cs (has_risen o n) at_rest (watched o n at_rest tells on calm) stand in
-    broken-left plans cs name has o n c.mount-2.new.self.entries.items c.in-Err-mount.bad.fault c.in-Err-mount.bad.at breaks
+    broken-left plans cs name has o n c.mount-2.new.self.entries.items c.in-Err-mount.bad.fault c.in-Err-mount.bad.at (c.in-Err-mount.ensures.ends plans cs (has_risen o n) at_rest (watched o n at_rest tells on calm) stand)
 
 pub returns-in-Err-mount-clause-good_copy : goal.returns-in-Err-mount-clause-good_copy
 returns-in-Err-mount-clause-good_copy g c = λ plans cs name table tells on calm stand named is.
     let o = g.B.Flash.state c.args.onto.now in
     let n = g.B.Flash.state c.mount-2.new.flash in
     let has = stands-there o (λ i. false) plans c.args.copies.now.entries.items cs name c.args.at stand named in
-    let breaks = c.in-Err-mount.ensures.ends plans cs (has_risen o n) at_rest (watched o n at_rest tells on calm) stand in
-    good-device Copy Copy table c.mount_status-in-Err-mount.result (c.mount_status-in-Err-mount.ensures ∙ broken-device plans cs name has o n c.mount-2.new.self.entries.items c.in-Err-mount.bad.fault c.in-Err-mount.bad.at breaks Copy) is
+    good-device Copy Copy table c.mount_status-in-Err-mount.result (c.mount_status-in-Err-mount.ensures ∙ broken-device plans cs name has o n c.mount-2.new.self.entries.items c.in-Err-mount.bad.fault c.in-Err-mount.bad.at (c.in-Err-mount.ensures.ends plans cs (has_risen o n) at_rest (watched o n at_rest tells on calm) stand) Copy) is
 
 pub returns-in-Err-mount-clause-device : goal.returns-in-Err-mount-clause-device
 returns-in-Err-mount-clause-device g c = λ is.
@@ -202,14 +194,13 @@ returns-in-Ok-clause-ends g c = λ plans ts cs name tells c_tells on c_on calm c
     let stood = subst (λ (t : Table 64 64). Stands t m (first_of plans c.args.at) (bare from.plan) (bare_table from.table)) (sym c.table-source.ensures) from.stands.on_flash.unlogged in
     let o = g.B.Flash.state c.args.onto.now in
     let n = g.B.Flash.state c.mount-2.new.flash in
-    let k = g.B.Flash.state c.ship_table.new.onto in
     let c_now = c.mount-2.new.self.entries.items in
     let c_here = entry-at c.mount-2.new.self.entries.items c.args.at c.index_mut.result.now (subst (λ (n : ℕ). c.args.at < n) (sym (c.mount-2.ensures.as_many ∙ c.requires.as_many)) c.requires.at) c.index_mut.ensures.value in
     let told_n : IsTrue n.media.tells = subst IsTrue (sym c.mount-2.ensures.goes.tells) c_tells in
     let c_mounted = c.in_default-mount.ensures.ends plans cs (has_risen o n) at_rest (watched o n at_rest c_tells c_on c_calm) c_stand in
     let to = own plans cs o n c_now c.args.at c.index_mut.result.now told_n c_here c_mounted in
     let works = own-works plans cs o n c_now c.args.at c.index_mut.result.now told_n c_here c_mounted in
-    shipped plans ts cs name c.args.count f m h o n k c.args.sources.now.entries.items now c.args.copies.now.entries.items c_now c.args.at c.index.result.now c.index_mut.result.now c.ship_table.new.copy
+    shipped plans ts cs name c.args.count f m h o n (g.B.Flash.state c.ship_table.new.onto) c.args.sources.now.entries.items now c.args.copies.now.entries.items c_now c.args.at c.index.result.now c.index_mut.result.now c.ship_table.new.copy
     c.mount.ensures.goes.faults c.ship_table.ensures.reads_only stand named here mounted c.mount-2.ensures.goes.faults c.ship_table.ensures.goes c.ship_table.ensures.same c.ship_table.ensures.outside told_m told_n c_stand c_named c_here c_mounted
     (g.K.Sink.written c.args.out.now) (g.K.Sink.written c.told.new.out) (g.K.Sink.faults c.args.out.now) (g.K.Sink.faults c.told.new.out) c.in-Ok.shipped c.told.result
     (c.in-Ok.ensures.ships (first_of plans c.args.at) (first_of plans c.args.at) (bare from.plan) to.plan (bare_table from.table) to.table told_m stood works) c.told.ensures.tells
@@ -240,14 +231,13 @@ pub returns-in-Ok-clause-copy_stands : goal.returns-in-Ok-clause-copy_stands
 returns-in-Ok-clause-copy_stands g c = λ plans cs name c_tells c_on c_calm c_stand c_named.
     let o = g.B.Flash.state c.args.onto.now in
     let n = g.B.Flash.state c.mount-2.new.flash in
-    let k = g.B.Flash.state c.ship_table.new.onto in
     let c_now = c.mount-2.new.self.entries.items in
     let c_here = entry-at c.mount-2.new.self.entries.items c.args.at c.index_mut.result.now (subst (λ (n : ℕ). c.args.at < n) (sym (c.mount-2.ensures.as_many ∙ c.requires.as_many)) c.requires.at) c.index_mut.ensures.value in
     let told_n : IsTrue n.media.tells = subst IsTrue (sym c.mount-2.ensures.goes.tells) c_tells in
     let c_mounted = c.in_default-mount.ensures.ends plans cs (has_risen o n) at_rest (watched o n at_rest c_tells c_on c_calm) c_stand in
     let to = own plans cs o n c_now c.args.at c.index_mut.result.now told_n c_here c_mounted in
     let works = own-works plans cs o n c_now c.args.at c.index_mut.result.now told_n c_here c_mounted in
-    changed-left plans cs o n c_now c.args.at c.index_mut.result.now told_n c_here c_mounted k c.ship_table.new.copy c.ship_table.ensures.goes c.ship_table.ensures.same c.ship_table.ensures.outside
+    changed-left plans cs o n c_now c.args.at c.index_mut.result.now told_n c_here c_mounted (g.B.Flash.state c.ship_table.new.onto) c.ship_table.new.copy c.ship_table.ensures.goes c.ship_table.ensures.same c.ship_table.ensures.outside
     (c.ship_table.ensures.copy_stands (first_of plans c.args.at) to.plan to.table works)
 
 -- .. or they weren't, to the end
@@ -265,7 +255,6 @@ returns-in-Err-ship_table-clause-ends g c = λ plans ts cs name tells c_tells on
     let stood = subst (λ (t : Table 64 64). Stands t m (first_of plans c.args.at) (bare from.plan) (bare_table from.table)) (sym c.table-source.ensures) from.stands.on_flash.unlogged in
     let o = g.B.Flash.state c.args.onto.now in
     let n = g.B.Flash.state c.mount-2.new.flash in
-    let k = g.B.Flash.state c.ship_table.new.onto in
     let c_now = c.mount-2.new.self.entries.items in
     let c_here = entry-at c.mount-2.new.self.entries.items c.args.at c.index_mut.result.now (subst (λ (n : ℕ). c.args.at < n) (sym (c.mount-2.ensures.as_many ∙ c.requires.as_many)) c.requires.at) c.index_mut.ensures.value in
     let told_n : IsTrue n.media.tells = subst IsTrue (sym c.mount-2.ensures.goes.tells) c_tells in
@@ -273,7 +262,7 @@ returns-in-Err-ship_table-clause-ends g c = λ plans ts cs name tells c_tells on
     let to = own plans cs o n c_now c.args.at c.index_mut.result.now told_n c_here c_mounted in
     let works = own-works plans cs o n c_now c.args.at c.index_mut.result.now told_n c_here c_mounted in
     rw c.stop_status.ensures
-    (stopped plans ts cs name c.args.count f m h o n k c.args.sources.now.entries.items now c.args.copies.now.entries.items c_now c.args.at c.index.result.now c.index_mut.result.now c.ship_table.new.copy
+    (stopped plans ts cs name c.args.count f m h o n (g.B.Flash.state c.ship_table.new.onto) c.args.sources.now.entries.items now c.args.copies.now.entries.items c_now c.args.at c.index.result.now c.index_mut.result.now c.ship_table.new.copy
     c.mount.ensures.goes.faults c.ship_table.ensures.reads_only stand named here mounted c.mount-2.ensures.goes.faults c.ship_table.ensures.goes c.ship_table.ensures.same c.ship_table.ensures.outside told_m told_n c_stand c_named c_here c_mounted
     (g.K.Sink.written c.args.out.now) c.in-Err-ship_table.stop
     (c.in-Err-ship_table.ensures.ships (first_of plans c.args.at) (first_of plans c.args.at) (bare from.plan) to.plan (bare_table from.table) to.table told_m stood works) c.in-Err-ship_table.ensures.cause)
@@ -304,14 +293,13 @@ pub returns-in-Err-ship_table-clause-copy_stands : goal.returns-in-Err-ship_tabl
 returns-in-Err-ship_table-clause-copy_stands g c = λ plans cs name c_tells c_on c_calm c_stand c_named.
     let o = g.B.Flash.state c.args.onto.now in
     let n = g.B.Flash.state c.mount-2.new.flash in
-    let k = g.B.Flash.state c.ship_table.new.onto in
     let c_now = c.mount-2.new.self.entries.items in
     let c_here = entry-at c.mount-2.new.self.entries.items c.args.at c.index_mut.result.now (subst (λ (n : ℕ). c.args.at < n) (sym (c.mount-2.ensures.as_many ∙ c.requires.as_many)) c.requires.at) c.index_mut.ensures.value in
     let told_n : IsTrue n.media.tells = subst IsTrue (sym c.mount-2.ensures.goes.tells) c_tells in
     let c_mounted = c.in_default-mount.ensures.ends plans cs (has_risen o n) at_rest (watched o n at_rest c_tells c_on c_calm) c_stand in
     let to = own plans cs o n c_now c.args.at c.index_mut.result.now told_n c_here c_mounted in
     let works = own-works plans cs o n c_now c.args.at c.index_mut.result.now told_n c_here c_mounted in
-    changed-left plans cs o n c_now c.args.at c.index_mut.result.now told_n c_here c_mounted k c.ship_table.new.copy c.ship_table.ensures.goes c.ship_table.ensures.same c.ship_table.ensures.outside
+    changed-left plans cs o n c_now c.args.at c.index_mut.result.now told_n c_here c_mounted (g.B.Flash.state c.ship_table.new.onto) c.ship_table.new.copy c.ship_table.ensures.goes c.ship_table.ensures.same c.ship_table.ensures.outside
     (c.ship_table.ensures.copy_stands (first_of plans c.args.at) to.plan to.table works)
 
 pub returns-in-Err-ship_table-clause-device : goal.returns-in-Err-ship_table-clause-device
@@ -330,11 +318,10 @@ pub returns-in-Err-ship_table-clause-good : goal.returns-in-Err-ship_table-claus
 returns-in-Err-ship_table-clause-good g c = λ plans ts name table tells on calm stand named is.
     let f = g.A.Flash.state c.args.from.now in
     let m = g.A.Flash.state c.mount.new.flash in
-    let now = c.mount.new.self.entries.items in
     let here = entry-at c.mount.new.self.entries.items c.args.at c.index.result.now (subst (λ (n : ℕ). c.args.at < n) (sym c.mount.ensures.as_many) c.requires.at) c.index.ensures in
     let told_m : IsTrue m.media.tells = subst IsTrue (sym c.mount.ensures.goes.tells) tells in
     let mounted = c.in_default.ensures.ends plans ts (has_risen f m) at_rest (watched f m at_rest tells on calm) stand in
-    let from = own plans ts f m now c.args.at c.index.result.now told_m here mounted in
+    let from = own plans ts f m (c.mount.new.self.entries.items) c.args.at c.index.result.now told_m here mounted in
     let stood = subst (λ (t : Table 64 64). Stands t m (first_of plans c.args.at) (bare from.plan) (bare_table from.table)) (sym c.table-source.ensures) from.stands.on_flash.unlogged in
     stop-good c.in-Err-ship_table.stop c.args.at table
     (λ bad e. c.ship_table.ensures.none_bad (first_of plans c.args.at) (bare from.plan) (bare_table from.table) told_m stood bad (c.in-Err-ship_table.is ∙ ap (λ (s : Stop). Err s) e)) (sym c.stop_status.ensures ∙ is)

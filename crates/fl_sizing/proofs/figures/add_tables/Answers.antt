@@ -1,7 +1,7 @@
 use Rattle.std.proofs.Common.{List, ℕ, ◌++◌, take, sym, ◌∙◌, ap, arith}
 use Rattle.std.specs.List.{flat_map}
+use Rattle.fl_base.proofs.Chains.{more}
 use Rattle.fl_sizing.specs.Text.{named_text, table_text}
-use Rattle.fl_sizing.proofs.Chains.{more}
 use Rattle.fl_sizing.proofs.Tables.{next-text}
 use Rattle.fl_sizing.proofs.figures.add_tables.Goals as goal
 

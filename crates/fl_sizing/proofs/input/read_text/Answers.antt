@@ -1,7 +1,7 @@
 use Rattle.std.proofs.Common.{◌≡◌, ℕ, ◌-◌, length, Ok, refl, subst, arith, rules}
 use Rattle.fl_base.specs.Stream.{Reads}
 use Rattle.fl_base.specs.declared.stream.SourceFailed.{SourceFailed}
-use Rattle.fl_sizing.proofs.SourceToEnd.{put-size, so-far-all, so-far-ended, so-far-failed, so-far-more}
+use Rattle.fl_base.proofs.SourceToEnd.{put-size, so-far-all, so-far-ended, so-far-failed, so-far-more}
 use Rattle.fl_sizing.proofs.input.read_text.Goals as goal
 
 pub returns-in-Ok-eq0-clause-text : goal.returns-in-Ok-eq0-clause-text

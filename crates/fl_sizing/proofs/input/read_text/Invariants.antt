@@ -1,5 +1,5 @@
 use Rattle.std.proofs.Common.{◌≡◌, ℕ, ◌≤◌, ◌-◌, List, Some, length}
-use Rattle.fl_sizing.proofs.SourceToEnd.{SoFar}
+use Rattle.fl_base.proofs.SourceToEnd.{SoFar}
 use Rattle.fl_sizing.proofs.input.read_text.Given as goal
 
 abbrev pub invariant-bytes : goal.invariant-bytes

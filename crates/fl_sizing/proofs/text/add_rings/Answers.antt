@@ -1,6 +1,6 @@
 use Rattle.std.proofs.Common.{◌++◌, codes}
+use Rattle.fl_base.proofs.Chains.{more, last}
 use Rattle.fl_sizing.specs.Text.{figure_line}
-use Rattle.fl_sizing.proofs.Chains.{more, last}
 use Rattle.fl_sizing.proofs.text.add_rings.Goals as goal
 
 pub returns : goal.returns

@@ -1,6 +1,6 @@
 use Rattle.std.proofs.Common.{◌++◌, codes}
+use Rattle.fl_base.proofs.Chains.{more, last}
 use Rattle.fl_sizing.specs.Text.{figure_line, days_text}
-use Rattle.fl_sizing.proofs.Chains.{more, last}
 use Rattle.fl_sizing.proofs.text.add_rows.Goals as goal
 
 pub returns : goal.returns

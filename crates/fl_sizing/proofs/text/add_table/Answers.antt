@@ -1,6 +1,6 @@
 use Rattle.std.proofs.Common.{List, ℕ, ◌++◌, codes, ap, ◌∙◌}
+use Rattle.fl_base.proofs.Chains.{more, last}
 use Rattle.fl_sizing.specs.Text.{words_line, rows_text, rings_text, costs_text}
-use Rattle.fl_sizing.proofs.Chains.{more, last}
 use Rattle.fl_sizing.proofs.text.add_table.Goals as goal
 
 pub returns : goal.returns

@@ -1,5 +1,5 @@
 use Rattle.fl_check.proofs.BlobsKnown.{all_lead, one_misleads}
-use Rattle.fl_check.proofs.Halts.{if_found, on_ok, if_failed}
+use Rattle.fl_check.proofs.Halts.{if_found, if_failed}
 use Rattle.fl_flash.specs.Flash.{page_at}
 use Rattle.fl_rules.specs.Claims.{AllBelow}
 use Rattle.fl_rules.specs.References.{PageLeads}
@@ -7,13 +7,13 @@ use Rattle.fl_check.specs.Whole.{shape_in, rows_shape, layout_in}
 use Rattle.fl_frame.proofs.ReadsInTurn.{looks_none}
 use Rattle.fl_check.proofs.Wholes.{in_ring, no_ring}
 use Rattle.fl_rules.specs.Marks.{AreWithin}
-use Rattle.std.proofs.lemmas.Result.{err_from_is_err_and}
+use Rattle.std.proofs.lemmas.Result.{err_from_is_err_and, on_ok_weaker}
 use Rattle.fl_check.proofs.table.Checked.check_blobs.Goals as goal
 
 pub returns-clause-sound : goal.returns-clause-sound
 returns-clause-sound g c =
     let f = g.F.Flash.state c.args.flash.now in
-    on_ok _ _ c.found.result
+    on_ok_weaker c.found.result
     (λ is told rings. all_lead c.args.self.now.config.now c.args.self.now.log f c.args.t c.requires.fits c.in-Some.place c.in-Some-var.n c.in-Some.is c.in-Some-var.is rings c.in_ok-broken.broken (c.in_ok-broken.ensures.blobs told) is)
     c.found.ensures.ok
 

@@ -1,4 +1,5 @@
 use Rattle.std.proofs.Common.{◌≡◌, sym, ◌∙◌, ap, subst}
+use Rattle.std.proofs.lemmas.Result.{IfOk-weaker}
 use Rattle.fl_base.specs.declared.types.Geometry.{Geometry}
 use Rattle.fl_flash.specs.Flash.{page_at}
 use Rattle.fl_model.specs.Record.{RowLayout}
@@ -10,7 +11,6 @@ use Rattle.fl_rules.specs.RingRules.{OverPages, IsRingSound, BreaksRing}
 use Rattle.fl_rules.specs.Stop.{breach}
 use Rattle.fl_check.specs.Whole.{rows_shape, layout_in}
 use Rattle.fl_check.proofs.Halts.{if_found, ok_of, found_of, if_failed, failed_of}
-use Rattle.fl_rules.proofs.Stops.{if_ok}
 use Rattle.fl_check.proofs.TableRings.{shape_is, room_in, room_back}
 use Rattle.fl_flash.specs.declared.flash.FlashFault.TheVariants.{PowerLost}
 use Rattle.fl_rules.specs.Marks.{AreWithin}
@@ -22,7 +22,7 @@ returns-clause-sound g c =
     let config = c.args.self.now.config.now in
     let buckets = c.args.self.now.config.now.buckets in
     let before : shape_of c.unnumbered-ring.result ≡ rows_shape c.args.self.now.config.now = c.unnumbered-ring.ensures.shape ∙ ap (λ (x : Geometry). shape_at config.rows x) (sym c.requires.fits.geometry) in
-    if_ok _ _ c.in_ring.result
+    IfOk-weaker c.in_ring.result _ _
     (λ n is told. subst (λ (r : Shape). IsRingSound (λ number bytes. IsDataPage (layout_in config) buckets number bytes) (OverPages (layout_in config)) (page_at f) r c.args.at_least n) before
     (subst (λ (l : RowLayout). IsRingSound (λ number bytes. IsDataPage l buckets number bytes) (OverPages l) (page_at f) (shape_of c.unnumbered-ring.result) c.args.at_least n) c.args.self.now.layout
     (ok_of c.check_rows.result _ n is c.check_rows.ensures.sound told)))
@@ -66,7 +66,7 @@ returns-clause-room g c = room_back c.args.self.now.config.now (g.F.Flash.state 
 
 pub returns-clause-within : goal.returns-clause-within
 returns-clause-within g c =
-    if_ok _ _ c.in_ring.result
+    IfOk-weaker c.in_ring.result _ _
     (λ n is. subst (λ (r : Shape). AreWithin r n.marks) (shape_is c.args.self.now.config.now (g.F.Flash.state c.args.flash.now) c.requires.fits c.args.self.now.config.now.rows (shape_of c.unnumbered-ring.result) c.unnumbered-ring.ensures.shape)
     (ok_of c.check_rows.result _ n is c.check_rows.ensures.within))
     c.in_ring.ensures.ok

@@ -2,11 +2,11 @@ use Rattle.std.proofs.Common.{ℕ, MatchOption, Option, subst}
 use Rattle.fl_flash.specs.Flash.{page_at}
 use Rattle.fl_check.specs.Entries.{HaveEntries, EntriesBreak}
 use Rattle.fl_check.specs.Whole.{shape_in, rows_shape, indexing}
-use Rattle.fl_check.proofs.Halts.{if_found, on_ok, if_failed}
+use Rattle.fl_check.proofs.Halts.{if_found, if_failed}
 use Rattle.fl_check.proofs.Wholes.{of_ring, entries_fault, in_ring, no_ring}
 use Rattle.fl_frame.proofs.ReadsInTurn.{looks_none}
 use Rattle.fl_rules.specs.Marks.{AreWithin}
-use Rattle.std.proofs.lemmas.Result.{err_from_is_err_and}
+use Rattle.std.proofs.lemmas.Result.{err_from_is_err_and, on_ok_weaker}
 use Rattle.fl_check.proofs.table.Checked.check_index_entries.Goals as goal
 
 pub returns-clause-sound : goal.returns-clause-sound
@@ -15,7 +15,7 @@ returns-clause-sound g c =
     let config = c.args.self.now.config.now in
     let place = c.in-Some.place in
     let n = c.in-Some-index.n in
-    on_ok _ _ c.found.result
+    on_ok_weaker c.found.result
     (λ is told. of_ring (λ place n. HaveEntries page (shape_in config place) (rows_shape config) (indexing config n c.args.t.rows)) config.index c.args.t.index place n c.in-Some.is c.in-Some-index.is
     (subst (λ (o : Option ℕ). MatchOption o (HaveEntries page (shape_in config place) (rows_shape config) (indexing config n c.args.t.rows))
     (λ p. EntriesBreak page (shape_in config place) (rows_shape config) (indexing config n c.args.t.rows) p)) is (c.in_ok-broken.ensures.entries told)))

@@ -12,7 +12,7 @@ use Rattle.fl_check.specs.Whole.{end_in, form_in}
 use Rattle.fl_check.proofs.TableRings.{shape_is, room_in, room_back, within, some_blocks, some_lies, within_there}
 use Rattle.fl_frame.proofs.ReadsInTurn.{looks_none, looks_by}
 use Rattle.std.proofs.lemmas.Option.{none-some}
-use Rattle.fl_rules.proofs.Stops.{if_ok}
+use Rattle.std.proofs.lemmas.Result.{IfOk-weaker}
 use Rattle.fl_check.proofs.table.Checked.find_index_end.Goals as goal
 
 pub unnumbered-ring-requires-clause-blocks : goal.unnumbered-ring-requires-clause-blocks
@@ -87,7 +87,7 @@ returns-clause-end g c =
     let n = c.in-Some-index.n in
     let per_page : c.entries_in-per_page.result ≡ entries_in config.geometry.page (form_in config) =
     c.entries_in-per_page.ensures.exact ∙ ap (λ (form : EntryForm). entries_in config.geometry.page form) c.entry_form.ensures.exact in
-    if_ok _ _ c.find_end.result
+    IfOk-weaker c.find_end.result _ _
     (λ end is told. is told
     ∙ ap (λ (k : ℕ). listed_to k page (shape_of c.unnumbered-ring.result) n.marks n.marks.kept) per_page
     ∙ ap (λ (r : Shape). listed_to (entries_in config.geometry.page (form_in config)) page r n.marks n.marks.kept) (shape_is c.args.self.now.config.now (g.F.Flash.state c.args.flash.now) c.requires.fits place (shape_of c.unnumbered-ring.result) c.unnumbered-ring.ensures.shape)

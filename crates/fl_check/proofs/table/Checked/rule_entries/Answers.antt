@@ -1,11 +1,11 @@
 use Rattle.std.proofs.Common.{Option, IfSome, refl, subst}
+use Rattle.std.proofs.lemmas.Result.{IfOk-weaker}
 use Rattle.fl_flash.specs.Flash.{page_at}
 use Rattle.fl_rules.specs.declared.numbering.Numbering.{Numbering}
 use Rattle.fl_rules.specs.Marks.{AreWithin}
 use Rattle.fl_check.specs.Whole.{rows_shape}
 use Rattle.fl_check.proofs.TableRings.{within_there}
 use Rattle.fl_frame.proofs.ReadsInTurn.{looks_none}
-use Rattle.fl_rules.proofs.Stops.{if_ok}
 use Rattle.fl_check.proofs.TableTold.{entries_known}
 use Rattle.fl_check.proofs.table.Checked.rule_entries.Goals as goal
 
@@ -62,7 +62,7 @@ returns-clause-room g c = c.find_misentered.ensures.room
 
 pub returns-clause-entries : goal.returns-clause-entries
 returns-clause-entries g c =
-    if_ok _ _ c.find_misentered.result
+    IfOk-weaker c.find_misentered.result _ _
     (λ entry is told. entries_known c.args.self.now.config.now (page_at (g.F.Flash.state c.args.flash.now)) c.args.self.now.config.now.index c.args.index c.args.rows c.in-Some.place c.in-Some-index.index c.in-Some-rows.rows entry c.in-Some.is c.in-Some-index.is c.in-Some-rows.is (is told))
     c.find_misentered.ensures.entries
 

@@ -6,7 +6,6 @@ use Rattle.fl_ring.specs.Place.{shape_of}
 use Rattle.fl_ring.specs.Ring.{Shape}
 use Rattle.fl_check.specs.Ruled.{RingTold}
 use Rattle.fl_check.specs.Whole.{shape_in, IsIndexForm, IfWithin}
-use Rattle.fl_rules.proofs.Stops.{if_ok}
 use Rattle.fl_check.proofs.TableTold.{at_place}
 use Rattle.std.specs.Prelude.{is_some}
 use Rattle.fl_base.specs.declared.types.RingPlace.{RingPlace}
@@ -14,6 +13,7 @@ use Rattle.fl_check.proofs.TableRings.{shape_is, room_in, room_back, some_blocks
 use Rattle.fl_frame.proofs.ReadsInTurn.{looks_none}
 use Rattle.std.proofs.lemmas.Option.{none-some}
 use Rattle.std.proofs.lemmas.Bool.{false≢true}
+use Rattle.std.proofs.lemmas.Result.{IfOk-weaker}
 use Rattle.fl_check.proofs.table.Checked.rule_index.Goals as goal
 
 pub returns-clause-rules : goal.returns-clause-rules
@@ -22,7 +22,7 @@ returns-clause-rules g c =
     let config = c.args.self.now.config.now in
     let place = c.in-Some.place in
     let before : shape_of c.unnumbered-ring.result ≡ shape_in config place = c.unnumbered-ring.ensures.shape ∙ ap (λ (x : Geometry). shape_at place x) (sym c.requires.fits.geometry) in
-    if_ok _ _ c.rule_ring.result
+    IfOk-weaker c.rule_ring.result _ _
     (λ told is known. at_place (λ place faults n. RingTold (IsIndexForm config) page (shape_in config place) 0 faults n) config.index place told.faults told.numbering c.in-Some.is
     (subst (λ (r : Shape). RingTold (IsIndexForm config) page r 0 told.faults told.numbering) before (is known)))
     c.rule_ring.ensures.rules
@@ -74,7 +74,7 @@ returns-clause-room g c = room_back c.args.self.now.config.now (g.F.Flash.state 
 
 pub returns-clause-within : goal.returns-clause-within
 returns-clause-within g c =
-    if_ok _ _ c.rule_ring.result
+    IfOk-weaker c.rule_ring.result _ _
     (λ told is. if_there c.args.self.now.config.now c.args.self.now.config.now.index c.in-Some.place (shape_of c.unnumbered-ring.result) told.numbering c.in-Some.is (shape_is c.args.self.now.config.now (g.F.Flash.state c.args.flash.now) c.requires.fits c.in-Some.place (shape_of c.unnumbered-ring.result) c.unnumbered-ring.ensures.shape) is)
     c.rule_ring.ensures.within
 

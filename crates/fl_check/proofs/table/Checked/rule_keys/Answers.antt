@@ -10,7 +10,6 @@ use Rattle.fl_rules.specs.Rising.{KeysAscend, KeysBreak, HaveRows}
 use Rattle.fl_check.specs.Whole.{rows_shape, layout_in}
 use Rattle.fl_rules.specs.declared.rule.Rule.TheVariants.{Keys}
 use Rattle.fl_check.proofs.RulesTold.{if_told, fails_told}
-use Rattle.fl_rules.proofs.Stops.{if_ok}
 use Rattle.fl_check.proofs.TableTold.{keys_at}
 use Rattle.fl_rules.specs.declared.numbering.Numbering.{Numbering}
 use Rattle.fl_check.proofs.TableRings.{room_back, room_in, within}
@@ -19,6 +18,7 @@ use Rattle.fl_rules.specs.RingRules.{OverPages}
 use Rattle.fl_check.specs.Ruled.{KeysTold}
 use Rattle.fl_check.proofs.PowersOff.{schema-fits}
 use Rattle.std.proofs.lemmas.Option.{MatchOption-at_some}
+use Rattle.std.proofs.lemmas.Result.{IfOk-weaker}
 use Rattle.fl_check.proofs.table.Checked.rule_keys.Goals as goal
 
 pub returns-clause-keys : goal.returns-clause-keys
@@ -31,7 +31,7 @@ returns-clause-keys g c =
     let r = shape_of c.unnumbered-ring.result in
     let before : r ≡ rows_shape config = c.unnumbered-ring.ensures.shape ∙ ap (λ (x : Geometry). shape_at config.rows x) (sym c.requires.fits.geometry) in
     let Is : RowLayout → Shape → Option ℕ → Type 0 = λ l s keys. HaveRows l page s m → MatchOption keys (KeysAscend l page s m) (λ p. KeysBreak l page s m p) in
-    if_ok _ _ c.first_page.result
+    IfOk-weaker c.first_page.result _ _
     (λ keys is told. keys_at (layout_in config) page (rows_shape config) c.args.rows c.in-Some.n keys c.in-Some.is
     (subst (λ (s : Shape). Is (layout_in config) s keys) before (subst (λ (l : RowLayout). Is l r keys) c.args.self.now.layout (is told))))
     (if_told c.check_keys.result c.first_page.result (IsTrue f.media.tells) (HaveRows layout page r m) (KeysAscend layout page r m) Keys (λ p. KeysBreak layout page r m p) c.first_page.ensures c.check_keys.ensures.keys

@@ -1,4 +1,5 @@
 use Rattle.std.proofs.Common.{◌≡◌, None, sym, ◌∙◌, ap, subst, Option}
+use Rattle.std.proofs.lemmas.Result.{IfOk-weaker}
 use Rattle.fl_base.specs.declared.types.Geometry.{Geometry}
 use Rattle.fl_flash.specs.Flash.{page_at}
 use Rattle.fl_model.specs.Record.{RowLayout}
@@ -9,7 +10,6 @@ use Rattle.fl_rules.specs.DataPage.{IsDataPage}
 use Rattle.fl_rules.specs.RingRules.{WithinPages}
 use Rattle.fl_check.specs.Ruled.{RowsTold}
 use Rattle.fl_check.specs.Whole.{shape_in, layout_in, LogFits}
-use Rattle.fl_rules.proofs.Stops.{if_ok}
 use Rattle.fl_check.proofs.TableTold.{at_place}
 use Rattle.fl_base.specs.declared.types.RingPlace.{RingPlace}
 use Rattle.fl_check.proofs.TableRings.{room_in, room_back}
@@ -22,7 +22,7 @@ returns-clause-rules g c =
     let config = c.args.self.now.config.now in
     let place = c.in-Some.place in
     let before : shape_of c.unnumbered-ring.result ≡ shape_in config place = c.unnumbered-ring.ensures.shape ∙ ap (λ (x : Geometry). shape_at place x) (sym c.requires.fits.geometry) in
-    if_ok _ _ c.rule_log.result
+    IfOk-weaker c.rule_log.result _ _
     (λ told is known. at_place (λ place faults n. RowsTold (λ number bytes. IsDataPage (layout_in config) None number bytes) (WithinPages (layout_in config)) page (shape_in config place) 0 faults n) c.args.self.now.log place
     told.faults told.numbering c.in-Some.is
     (subst (λ (r : Shape). RowsTold (λ number bytes. IsDataPage (layout_in config) None number bytes) (WithinPages (layout_in config)) page r 0 told.faults told.numbering) before

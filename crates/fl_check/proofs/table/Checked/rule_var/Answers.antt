@@ -1,4 +1,5 @@
 use Rattle.std.proofs.Common.{◌≡◌, Option, sym, subst}
+use Rattle.std.proofs.lemmas.Result.{IfOk-weaker}
 use Rattle.fl_base.specs.declared.types.RingPlace.{RingPlace}
 use Rattle.fl_flash.specs.Flash.{page_at}
 use Rattle.fl_ring.specs.Place.{shape_of}
@@ -8,7 +9,6 @@ use Rattle.fl_check.specs.Ruled.{RingTold}
 use Rattle.fl_check.specs.Whole.{IfWithin, shape_in}
 use Rattle.fl_check.proofs.TableRings.{shape_is, room_in, room_back, some_blocks, some_lies, if_there}
 use Rattle.fl_frame.proofs.ReadsInTurn.{looks_none}
-use Rattle.fl_rules.proofs.Stops.{if_ok}
 use Rattle.fl_check.proofs.TableTold.{at_place}
 use Rattle.fl_check.proofs.table.Checked.rule_var.Goals as goal
 
@@ -47,7 +47,7 @@ returns-clause-room g c = room_back c.args.self.now.config.now (g.F.Flash.state 
 
 pub returns-clause-within : goal.returns-clause-within
 returns-clause-within g c =
-    if_ok _ _ c.rule_ring.result
+    IfOk-weaker c.rule_ring.result _ _
     (λ told is. if_there c.args.self.now.config.now c.args.self.now.config.now.var c.in-Some.place (shape_of c.unnumbered-ring.result) told.numbering c.in-Some.is (shape_is c.args.self.now.config.now (g.F.Flash.state c.args.flash.now) c.requires.fits c.in-Some.place (shape_of c.unnumbered-ring.result) c.unnumbered-ring.ensures.shape) is)
     c.rule_ring.ensures.within
 
@@ -57,7 +57,7 @@ returns-clause-rules g c =
     let config = c.args.self.now.config.now in
     let place = c.in-Some.place in
     let before : shape_of c.unnumbered-ring.result ≡ shape_in config place = shape_is c.args.self.now.config.now (g.F.Flash.state c.args.flash.now) c.requires.fits place (shape_of c.unnumbered-ring.result) c.unnumbered-ring.ensures.shape in
-    if_ok _ _ c.rule_ring.result
+    IfOk-weaker c.rule_ring.result _ _
     (λ told is known. at_place (λ place faults n. RingTold (λ number bytes. IsContentPage number bytes) page (shape_in config place) c.args.at_least faults n) config.var place told.faults told.numbering c.in-Some.is
     (subst (λ (r : Shape). RingTold (λ number bytes. IsContentPage number bytes) page r c.args.at_least told.faults told.numbering) before (is known)))
     c.rule_ring.ensures.rules

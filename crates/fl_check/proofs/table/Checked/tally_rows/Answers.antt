@@ -1,4 +1,5 @@
 use Rattle.std.proofs.Common.{◌≡◌, subst}
+use Rattle.std.proofs.lemmas.Result.{IfOk-weaker}
 use Rattle.fl_flash.specs.Flash.{page_at}
 use Rattle.fl_frame.proofs.ReadsInTurn.{looks_by}
 use Rattle.fl_model.specs.Record.{RowLayout}
@@ -8,7 +9,6 @@ use Rattle.fl_schema.specs.Schema.{layout_of}
 use Rattle.fl_rules.specs.Rising.{HaveRows}
 use Rattle.fl_rules.specs.Tally.{tally_of}
 use Rattle.fl_check.specs.Whole.{rows_shape}
-use Rattle.fl_rules.proofs.Stops.{if_ok}
 use Rattle.fl_check.proofs.TableRings.{shape_is, room_in, room_back, within}
 use Rattle.fl_check.proofs.table.Checked.tally_rows.Goals as goal
 
@@ -49,7 +49,7 @@ returns-clause-tally g c =
     let layout = layout_of c.args.self.now.schema in
     let m = c.args.rows.marks in
     let same = shape_is config f c.requires.fits config.rows (shape_of c.unnumbered-ring.result) c.unnumbered-ring.ensures.shape in
-    if_ok _ _ c.tally_pages.result
+    IfOk-weaker c.tally_pages.result _ _
     (λ tally is told.
     subst (λ (l : RowLayout). HaveRows l (page_at f) (rows_shape config) m → tally ≡ tally_of l (page_at f) (rows_shape config) m m.kept) c.args.self.now.layout
     (subst (λ (r : Shape). HaveRows layout (page_at f) r m → tally ≡ tally_of layout (page_at f) r m m.kept) same (is told)))

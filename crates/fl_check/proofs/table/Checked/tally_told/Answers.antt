@@ -1,4 +1,5 @@
 use Rattle.std.proofs.Common.{Option, IfSome, sym, ◌∙◌, ap, subst}
+use Rattle.std.proofs.lemmas.Result.{IfOk-weaker}
 use Rattle.fl_flash.specs.Flash.{page_at}
 use Rattle.fl_rules.specs.declared.numbering.Numbering.{Numbering}
 use Rattle.fl_rules.specs.Marks.{AreWithin}
@@ -6,7 +7,6 @@ use Rattle.fl_check.specs.Whole.{rows_shape, layout_in}
 use Rattle.fl_rules.specs.Rising.{HaveRows}
 use Rattle.fl_check.specs.Rules.{tally_told}
 use Rattle.fl_frame.proofs.ReadsInTurn.{looks_none}
-use Rattle.fl_rules.proofs.Stops.{if_ok}
 use Rattle.fl_check.proofs.table.Checked.tally_told.Goals as goal
 
 pub tally_rows-requires-clause-fits : goal.tally_rows-requires-clause-fits
@@ -35,7 +35,7 @@ returns-clause-room g c = c.tally_rows.ensures.room
 
 pub returns-clause-tally : goal.returns-clause-tally
 returns-clause-tally g c =
-    if_ok _ _ c.tally_rows.result
+    IfOk-weaker c.tally_rows.result _ _
     (λ tally is told have. is told (subst (λ (o : Option Numbering). IfSome o (λ n. HaveRows (layout_in c.args.self.now.config.now) (page_at (g.F.Flash.state c.args.flash.now)) (rows_shape c.args.self.now.config.now) n.marks)) c.in-Some.is have)
     ∙ sym (ap (λ (x : Option Numbering). tally_told c.args.self.now.config.now (page_at (g.F.Flash.state c.args.flash.now)) x) c.in-Some.is))
     c.tally_rows.ensures.tally

@@ -2,8 +2,9 @@ use Rattle.std.proofs.Common.{map, refl, arith}
 use Rattle.std.proofs.lemmas.List.{length-map}
 use Rattle.fl_schema.specs.Types.{column_of}
 use Rattle.fl_plan.specs.declared.table_config.TableConfig.{TableConfig}
+use Rattle.fl_plan.proofs.RingPlaces.{ring-first, ring-blocks}
 use Rattle.fl_config.specs.Words.{line_of}
-use Rattle.fl_config.proofs.Made.{same-plan, ring-first, ring-size, ring-buckets, some-columns, ring-blocks}
+use Rattle.fl_config.proofs.Made.{same-plan, ring-size, ring-buckets, some-columns}
 use Rattle.fl_config.proofs.words.TableWords.config.Goals as goal
 
 pub returns : goal.returns

@@ -17,13 +17,14 @@ use Rattle.fl_cursor.specs.Sound.{pages_in}
 use Rattle.fl_cursor.proofs.Indexed.{told-bytes}
 use Rattle.fl_cursor.proofs.SoundPages.{sound-found, sound-oldest}
 use Rattle.fl_table.specs.Finding.{IsPageFor}
+use Rattle.fl_table.proofs.Finds.{lookup-caused}
 use Rattle.fl_parts.proofs.Sizes.{table-fits}
 use Rattle.std.proofs.lemmas.Bool.{true≢false}
 use Rattle.fl_cursor.specs.Cursor.{is_end, IsPlaced}
 use Rattle.fl_cursor.specs.Going.{is_at_pages}
 use Rattle.fl_cursor.proofs.Whole.{goes-still}
 use Rattle.fl_cursor.proofs.PlacesLeft.{begun-other}
-use Rattle.fl_cursor.proofs.Lying.{lies-held, search-caused, search-bad}
+use Rattle.fl_cursor.proofs.Lying.{lies-held, search-bad}
 use Rattle.fl_cursor.proofs.cursor.Cursor.find_start.Goals as goal
 
 pub returns-in_err-number-clause-fails : goal.returns-in_err-number-clause-fails
@@ -177,7 +178,7 @@ pub returns-in_err-number-clause-sound : goal.returns-in_err-number-clause-sound
 returns-in_err-number-clause-sound g c = let p = err_from_is_err_and c.from_residual.result c.from_residual.ensures.1 in rw p.1 tt
 
 pub returns-in_err-number-clause-cause : goal.returns-in_err-number-clause-cause
-returns-in_err-number-clause-cause g c = let p = err_from_is_err_and c.from_residual.result c.from_residual.ensures.1 in rw (p.1, p.2) (search-caused c.args.self.now.table.now (g.F.Flash.state c.args.flash.now) (g.F.Flash.state c.page_of.new.flash) c.in_err-number.field-0.0 c.in_err-number.ensures.kept.fails)
+returns-in_err-number-clause-cause g c = let p = err_from_is_err_and c.from_residual.result c.from_residual.ensures.1 in rw (p.1, p.2) (lookup-caused c.args.self.now.table.now (g.F.Flash.state c.args.flash.now) (g.F.Flash.state c.page_of.new.flash) c.in_err-number.field-0.0 c.in_err-number.ensures.kept.fails)
 
 pub returns-in_err-number-clause-bad_page : goal.returns-in_err-number-clause-bad_page
 returns-in_err-number-clause-bad_page g c = let p = err_from_is_err_and c.from_residual.result c.from_residual.ensures.1 in rw (p.1, p.2) (search-bad c.args.self.now.table.now (g.F.Flash.state c.args.flash.now) (g.F.Flash.state c.page_of.new.flash) c.in_err-number.field-0.0 c.in_err-number.ensures.kept.fails)

@@ -10,9 +10,9 @@ use Rattle.fl_cursor.specs.Ascending.{both}
 use Rattle.fl_cursor.specs.Cursor.{is_here_at, row_at}
 use Rattle.fl_parts.proofs.Sizes.{table-fits}
 use Rattle.std.specs.List.{slice_get}
+use Rattle.fl_page.proofs.Views.{form-good}
 use Rattle.fl_schema.specs.Schema.{row_of}
 use Rattle.fl_table.specs.Memory.{pending_in}
-use Rattle.fl_cursor.proofs.InPage.{seen-good}
 use Rattle.fl_cursor.proofs.rows.CursorRowHere.row.Goals as goal
 
 pub row-requires : goal.row-requires
@@ -39,7 +39,7 @@ view-requires g c =
     let here = sym (ap (is_here_at t page) c.in-PageRow.is) ∙ c.requires in
     let sized = both (has_form (layout_in t) c.in-PageRow.number page && nat_lt c.in-PageRow.row (page_count page)) (nat_le (length page) 4096) here in
     let good = (both (has_form (layout_in t) c.in-PageRow.number page) (nat_lt c.in-PageRow.row (page_count page)) sized.0).0 in
-    (table-fits g.row.KNOTS g.row.SLOTS c.args.self.now.table.now.few_knots c.args.self.now.table.now.few_slots, (seen-good (layout_in t) c.in-PageRow.number page good, leb-true (length page) 4096 sized.1))
+    (table-fits g.row.KNOTS g.row.SLOTS c.args.self.now.table.now.few_knots c.args.self.now.table.now.few_slots, (form-good (layout_in t) c.in-PageRow.number page good, leb-true (length page) 4096 sized.1))
 
 pub pending_row-requires : goal.pending_row-requires
 pending_row-requires g c = (table-fits g.row.KNOTS g.row.SLOTS c.args.self.now.table.now.few_knots c.args.self.now.table.now.few_slots, ltb-true c.in-PendingRow.row (pending_in c.args.self.now.table.now) (sym (ap (is_here_at c.args.self.now.table.now c.args.self.now.rows_buf.now.bytes) c.in-PendingRow.is) ∙ c.requires))

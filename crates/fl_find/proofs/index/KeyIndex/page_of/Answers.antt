@@ -2,6 +2,7 @@ use Rattle.std.proofs.Common.{◌≡◌, ℕ, true, false, sym, ap, subst, ◌�
 use Rattle.std.specs.Prelude.{IfErr, OnOk, unwrap_or, IfOk}
 use Rattle.std.proofs.lemmas.Result.{IfOk-weaker}
 use Rattle.std.proofs.lemmas.Bool.{true≢false}
+use Rattle.std.proofs.lemmas.Option.{IfSome_then}
 use Rattle.fl_ring.specs.Place.{shape_of, oldest_of, next_of}
 use Rattle.fl_search.specs.Search.{IsPageOf, RoseBy, looked_at}
 use Rattle.fl_spline.proofs.Segments.{segment-covered}
@@ -10,7 +11,7 @@ use Rattle.fl_schema.specs.Schema.{layout_of}
 use Rattle.fl_find.specs.Pages.{first_on}
 use Rattle.fl_find.specs.Looking.{BlamesBelow, NoneIsBad}
 use Rattle.fl_find.specs.Index.{window_end}
-use Rattle.fl_find.proofs.Moves.{if-some, page-starts}
+use Rattle.fl_find.proofs.Moves.{page-starts}
 use Rattle.fl_find.proofs.Modelled.{near-found, near-limit, far-found, far-limit, ascend-ring}
 use Rattle.fl_find.proofs.Indexed.{index-covered, index-end, window-before, reads-window}
 use Rattle.fl_find.proofs.index.KeyIndex.page_of.Goals as goal
@@ -63,7 +64,7 @@ pub returns-in-Some-clause-within : goal.returns-in-Some-clause-within
 returns-in-Some-clause-within g c =
     let is = c.end_of_window-end.ensures in
     let next = c.next_number.ensures in
-    IfOk-weaker c.page_downwards.result _ _ (λ page h. if-some _ _ page (λ n k. let before = k.1 in (k.0, omega (arith, before, is, next))) h) c.page_downwards.ensures.within
+    IfOk-weaker c.page_downwards.result _ _ (λ page h. IfSome_then page h (λ n k. let before = k.1 in (k.0, omega (arith, before, is, next)))) c.page_downwards.ensures.within
 
 pub returns-in-Some-clause-starts : goal.returns-in-Some-clause-starts
 returns-in-Some-clause-starts g c = λ told.

@@ -1,7 +1,8 @@
 -- Each clause is that of the lookup of the entry, told of the bitmap alone.
 use Rattle.std.proofs.Common.{ℕ, Option, IfSome, Ok, Err, subst, sym}
+use Rattle.std.proofs.lemmas.Option.{IfSome_then}
 use Rattle.fl_index.specs.Looking.{bitmap_alone, looked_at, IsFound, ByMemory, ShowsBitmap}
-use Rattle.fl_index.proofs.BitmapsAlone.{memory-alone, found-alone, read-alone, some-mapped, shows-alone}
+use Rattle.fl_index.proofs.BitmapsAlone.{memory-alone, found-alone, read-alone, shows-alone}
 use Rattle.fl_index.proofs.index.BitmapIndex.bitmap_of.Goals as goal
 
 pub returns-in-Ok-clause-memory : goal.returns-in-Ok-clause-memory
@@ -24,15 +25,15 @@ returns-in-Err-clause-found g c =
 
 pub returns-in-Err-clause-page : goal.returns-in-Err-clause-page
 returns-in-Err-clause-page g c =
-    some-mapped _ _ (looked_at c.args.self.now c.args.number c.args.buf.now) (λ listing h told fresh. read-alone (Err c.in-Err.fault) _ (h told fresh)) c.in-Err.ensures.page
+    IfSome_then (looked_at c.args.self.now c.args.number c.args.buf.now) c.in-Err.ensures.page (λ listing h told fresh. read-alone (Err c.in-Err.fault) _ (h told fresh))
 
 pub returns-in-Err-clause-holds : goal.returns-in-Err-clause-holds
 returns-in-Err-clause-holds g c =
-    some-mapped _ _ (looked_at c.args.self.now c.args.number c.args.buf.now) (λ listing h. read-alone (Err c.in-Err.fault) _ h) c.in-Err.ensures.holds
+    IfSome_then (looked_at c.args.self.now c.args.number c.args.buf.now) c.in-Err.ensures.holds (λ listing h. read-alone (Err c.in-Err.fault) _ h)
 
 pub returns-in-Err-clause-read : goal.returns-in-Err-clause-read
 returns-in-Err-clause-read g c =
-    some-mapped _ _ (looked_at c.args.self.now c.args.number c.args.buf.now) (λ listing h other. read-alone (Err c.in-Err.fault) _ (h other)) c.in-Err.ensures.read
+    IfSome_then (looked_at c.args.self.now c.args.number c.args.buf.now) c.in-Err.ensures.read (λ listing h other. read-alone (Err c.in-Err.fault) _ (h other))
 
 pub returns-in-Ok-clause-stands : goal.returns-in-Ok-clause-stands
 returns-in-Ok-clause-stands g c = λ first plan table told stands fresh.

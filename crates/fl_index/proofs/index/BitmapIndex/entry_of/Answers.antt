@@ -1,6 +1,6 @@
 use Rattle.std.proofs.Common.{◌≡◌, ◌⊎◌, inl, inr, ℕ, ◌-◌, cond, Option, Some, None, IfSome, IsTrue, List, length, refl, sym, ◌∙◌, ap, subst, arith}
 use Rattle.std.proofs.Math.Nat.{le-add_right}
-use Rattle.std.proofs.lemmas.Option.{none-some, same_Some}
+use Rattle.std.proofs.lemmas.Option.{none-some, same_Some, MatchOption-from_none}
 use Rattle.fl_base.specs.declared.types.Geometry.{Geometry}
 use Rattle.fl_ring.specs.Place.{shape_of}
 use Rattle.fl_ring.specs.Ring.{place}
@@ -16,7 +16,7 @@ use Rattle.fl_index.proofs.Scans.{memory-least, good-found, caused-none, bad-pag
 use Rattle.fl_index.proofs.LookupsOfTable.{X_is, waits-shows, none-shows, page-is, found-shows}
 use Rattle.fl_index.proofs.Held.{none-by}
 use Rattle.fl_index.proofs.Lookups.{some-of, none-of, read-any, listing-here, looked-here, kept-here, held-is, here-bytes, place-same, scans-on, ok-any}
-use Rattle.fl_index.proofs.LookupCalls.{header-fits, holds-good, none-any, some-any, some-at, unread-never, none-waits, none-listed, no-ring-in, no-ring-by, from-memory, scan-stays}
+use Rattle.fl_index.proofs.LookupCalls.{header-fits, holds-good, some-any, some-at, unread-never, none-waits, none-listed, no-ring-in, no-ring-by, from-memory, scan-stays}
 use Rattle.fl_index.proofs.index.BitmapIndex.entry_of.Goals as goal
 
 pub returns-in-Some-clause-stands : goal.returns-in-Some-clause-stands
@@ -194,27 +194,27 @@ returns-in-Some-clause-memory g c = λ none. from-memory c.args.self.now c.args.
 pub returns-in-Some-clause-found : goal.returns-in-Some-clause-found
 returns-in-Some-clause-found g c =
     let t = c.args.self.now in
-    none-any (looked_at t c.args.number c.args.buf.now) _ (none-waits t c.args.number c.args.buf.now (some-of (is_waiting t c.args.number) (found_waiting t (c.args.number - first_waiting t)) c.in-Some.found (sym c.waiting_entry.ensures ∙ c.in-Some.is)).0)
+    MatchOption-from_none (looked_at t c.args.number c.args.buf.now) _ (none-waits t c.args.number c.args.buf.now (some-of (is_waiting t c.args.number) (found_waiting t (c.args.number - first_waiting t)) c.in-Some.found (sym c.waiting_entry.ensures ∙ c.in-Some.is)).0)
 
 pub returns-in-Some-clause-page : goal.returns-in-Some-clause-page
 returns-in-Some-clause-page g c =
     let t = c.args.self.now in
-    none-any (looked_at t c.args.number c.args.buf.now) _ (none-waits t c.args.number c.args.buf.now (some-of (is_waiting t c.args.number) (found_waiting t (c.args.number - first_waiting t)) c.in-Some.found (sym c.waiting_entry.ensures ∙ c.in-Some.is)).0)
+    MatchOption-from_none (looked_at t c.args.number c.args.buf.now) _ (none-waits t c.args.number c.args.buf.now (some-of (is_waiting t c.args.number) (found_waiting t (c.args.number - first_waiting t)) c.in-Some.found (sym c.waiting_entry.ensures ∙ c.in-Some.is)).0)
 
 pub returns-in-Some-clause-holds : goal.returns-in-Some-clause-holds
 returns-in-Some-clause-holds g c =
     let t = c.args.self.now in
-    none-any (looked_at t c.args.number c.args.buf.now) _ (none-waits t c.args.number c.args.buf.now (some-of (is_waiting t c.args.number) (found_waiting t (c.args.number - first_waiting t)) c.in-Some.found (sym c.waiting_entry.ensures ∙ c.in-Some.is)).0)
+    MatchOption-from_none (looked_at t c.args.number c.args.buf.now) _ (none-waits t c.args.number c.args.buf.now (some-of (is_waiting t c.args.number) (found_waiting t (c.args.number - first_waiting t)) c.in-Some.found (sym c.waiting_entry.ensures ∙ c.in-Some.is)).0)
 
 pub returns-in-Some-clause-held : goal.returns-in-Some-clause-held
 returns-in-Some-clause-held g c =
     let t = c.args.self.now in
-    none-any (looked_at t c.args.number c.args.buf.now) _ (none-waits t c.args.number c.args.buf.now (some-of (is_waiting t c.args.number) (found_waiting t (c.args.number - first_waiting t)) c.in-Some.found (sym c.waiting_entry.ensures ∙ c.in-Some.is)).0)
+    MatchOption-from_none (looked_at t c.args.number c.args.buf.now) _ (none-waits t c.args.number c.args.buf.now (some-of (is_waiting t c.args.number) (found_waiting t (c.args.number - first_waiting t)) c.in-Some.found (sym c.waiting_entry.ensures ∙ c.in-Some.is)).0)
 
 pub returns-in-Some-clause-read : goal.returns-in-Some-clause-read
 returns-in-Some-clause-read g c =
     let t = c.args.self.now in
-    none-any (looked_at t c.args.number c.args.buf.now) _ (none-waits t c.args.number c.args.buf.now (some-of (is_waiting t c.args.number) (found_waiting t (c.args.number - first_waiting t)) c.in-Some.found (sym c.waiting_entry.ensures ∙ c.in-Some.is)).0)
+    MatchOption-from_none (looked_at t c.args.number c.args.buf.now) _ (none-waits t c.args.number c.args.buf.now (some-of (is_waiting t c.args.number) (found_waiting t (c.args.number - first_waiting t)) c.in-Some.found (sym c.waiting_entry.ensures ∙ c.in-Some.is)).0)
 
 pub returns-in-Some-clause-fresh : goal.returns-in-Some-clause-fresh
 returns-in-Some-clause-fresh g c = λ told fresh. fresh
@@ -243,27 +243,27 @@ returns-in_default-listing-clause-memory g c = λ none. from-memory c.args.self.
 pub returns-in_default-listing-clause-found : goal.returns-in_default-listing-clause-found
 returns-in_default-listing-clause-found g c =
     let t = c.args.self.now in
-    none-any (looked_at t c.args.number c.args.buf.now) _ (none-listed t c.args.number c.args.buf.now (none-of (is_waiting t c.args.number) (found_waiting t (c.args.number - first_waiting t)) (sym c.waiting_entry.ensures ∙ c.in_default.is)) (c.listing.ensures.none c.in_default-listing.is))
+    MatchOption-from_none (looked_at t c.args.number c.args.buf.now) _ (none-listed t c.args.number c.args.buf.now (none-of (is_waiting t c.args.number) (found_waiting t (c.args.number - first_waiting t)) (sym c.waiting_entry.ensures ∙ c.in_default.is)) (c.listing.ensures.none c.in_default-listing.is))
 
 pub returns-in_default-listing-clause-page : goal.returns-in_default-listing-clause-page
 returns-in_default-listing-clause-page g c =
     let t = c.args.self.now in
-    none-any (looked_at t c.args.number c.args.buf.now) _ (none-listed t c.args.number c.args.buf.now (none-of (is_waiting t c.args.number) (found_waiting t (c.args.number - first_waiting t)) (sym c.waiting_entry.ensures ∙ c.in_default.is)) (c.listing.ensures.none c.in_default-listing.is))
+    MatchOption-from_none (looked_at t c.args.number c.args.buf.now) _ (none-listed t c.args.number c.args.buf.now (none-of (is_waiting t c.args.number) (found_waiting t (c.args.number - first_waiting t)) (sym c.waiting_entry.ensures ∙ c.in_default.is)) (c.listing.ensures.none c.in_default-listing.is))
 
 pub returns-in_default-listing-clause-holds : goal.returns-in_default-listing-clause-holds
 returns-in_default-listing-clause-holds g c =
     let t = c.args.self.now in
-    none-any (looked_at t c.args.number c.args.buf.now) _ (none-listed t c.args.number c.args.buf.now (none-of (is_waiting t c.args.number) (found_waiting t (c.args.number - first_waiting t)) (sym c.waiting_entry.ensures ∙ c.in_default.is)) (c.listing.ensures.none c.in_default-listing.is))
+    MatchOption-from_none (looked_at t c.args.number c.args.buf.now) _ (none-listed t c.args.number c.args.buf.now (none-of (is_waiting t c.args.number) (found_waiting t (c.args.number - first_waiting t)) (sym c.waiting_entry.ensures ∙ c.in_default.is)) (c.listing.ensures.none c.in_default-listing.is))
 
 pub returns-in_default-listing-clause-held : goal.returns-in_default-listing-clause-held
 returns-in_default-listing-clause-held g c =
     let t = c.args.self.now in
-    none-any (looked_at t c.args.number c.args.buf.now) _ (none-listed t c.args.number c.args.buf.now (none-of (is_waiting t c.args.number) (found_waiting t (c.args.number - first_waiting t)) (sym c.waiting_entry.ensures ∙ c.in_default.is)) (c.listing.ensures.none c.in_default-listing.is))
+    MatchOption-from_none (looked_at t c.args.number c.args.buf.now) _ (none-listed t c.args.number c.args.buf.now (none-of (is_waiting t c.args.number) (found_waiting t (c.args.number - first_waiting t)) (sym c.waiting_entry.ensures ∙ c.in_default.is)) (c.listing.ensures.none c.in_default-listing.is))
 
 pub returns-in_default-listing-clause-read : goal.returns-in_default-listing-clause-read
 returns-in_default-listing-clause-read g c =
     let t = c.args.self.now in
-    none-any (looked_at t c.args.number c.args.buf.now) _ (none-listed t c.args.number c.args.buf.now (none-of (is_waiting t c.args.number) (found_waiting t (c.args.number - first_waiting t)) (sym c.waiting_entry.ensures ∙ c.in_default.is)) (c.listing.ensures.none c.in_default-listing.is))
+    MatchOption-from_none (looked_at t c.args.number c.args.buf.now) _ (none-listed t c.args.number c.args.buf.now (none-of (is_waiting t c.args.number) (found_waiting t (c.args.number - first_waiting t)) (sym c.waiting_entry.ensures ∙ c.in_default.is)) (c.listing.ensures.none c.in_default-listing.is))
 
 pub returns-in_default-listing-clause-fresh : goal.returns-in_default-listing-clause-fresh
 returns-in_default-listing-clause-fresh g c = λ told fresh. fresh
@@ -395,27 +395,27 @@ returns-clause-unread g c = unread-never c.listed.result _ c.listed.ensures.no_f
 pub returns-in_default-ring-clause-found : goal.returns-in_default-ring-clause-found
 returns-in_default-ring-clause-found g c =
     let t = c.args.self.now in
-    none-any (looked_at t c.args.number c.args.buf.now) _ (none-listed t c.args.number c.args.buf.now (none-of (is_waiting t c.args.number) (found_waiting t (c.args.number - first_waiting t)) (sym c.waiting_entry.ensures ∙ c.in_default.is)) (no-ring-by t c.args.number c.args.buf.now c.in_default-ring.is))
+    MatchOption-from_none (looked_at t c.args.number c.args.buf.now) _ (none-listed t c.args.number c.args.buf.now (none-of (is_waiting t c.args.number) (found_waiting t (c.args.number - first_waiting t)) (sym c.waiting_entry.ensures ∙ c.in_default.is)) (no-ring-by t c.args.number c.args.buf.now c.in_default-ring.is))
 
 pub returns-in_default-ring-clause-page : goal.returns-in_default-ring-clause-page
 returns-in_default-ring-clause-page g c =
     let t = c.args.self.now in
-    none-any (looked_at t c.args.number c.args.buf.now) _ (none-listed t c.args.number c.args.buf.now (none-of (is_waiting t c.args.number) (found_waiting t (c.args.number - first_waiting t)) (sym c.waiting_entry.ensures ∙ c.in_default.is)) (no-ring-by t c.args.number c.args.buf.now c.in_default-ring.is))
+    MatchOption-from_none (looked_at t c.args.number c.args.buf.now) _ (none-listed t c.args.number c.args.buf.now (none-of (is_waiting t c.args.number) (found_waiting t (c.args.number - first_waiting t)) (sym c.waiting_entry.ensures ∙ c.in_default.is)) (no-ring-by t c.args.number c.args.buf.now c.in_default-ring.is))
 
 pub returns-in_default-ring-clause-holds : goal.returns-in_default-ring-clause-holds
 returns-in_default-ring-clause-holds g c =
     let t = c.args.self.now in
-    none-any (looked_at t c.args.number c.args.buf.now) _ (none-listed t c.args.number c.args.buf.now (none-of (is_waiting t c.args.number) (found_waiting t (c.args.number - first_waiting t)) (sym c.waiting_entry.ensures ∙ c.in_default.is)) (no-ring-by t c.args.number c.args.buf.now c.in_default-ring.is))
+    MatchOption-from_none (looked_at t c.args.number c.args.buf.now) _ (none-listed t c.args.number c.args.buf.now (none-of (is_waiting t c.args.number) (found_waiting t (c.args.number - first_waiting t)) (sym c.waiting_entry.ensures ∙ c.in_default.is)) (no-ring-by t c.args.number c.args.buf.now c.in_default-ring.is))
 
 pub returns-in_default-ring-clause-held : goal.returns-in_default-ring-clause-held
 returns-in_default-ring-clause-held g c =
     let t = c.args.self.now in
-    none-any (looked_at t c.args.number c.args.buf.now) _ (none-listed t c.args.number c.args.buf.now (none-of (is_waiting t c.args.number) (found_waiting t (c.args.number - first_waiting t)) (sym c.waiting_entry.ensures ∙ c.in_default.is)) (no-ring-by t c.args.number c.args.buf.now c.in_default-ring.is))
+    MatchOption-from_none (looked_at t c.args.number c.args.buf.now) _ (none-listed t c.args.number c.args.buf.now (none-of (is_waiting t c.args.number) (found_waiting t (c.args.number - first_waiting t)) (sym c.waiting_entry.ensures ∙ c.in_default.is)) (no-ring-by t c.args.number c.args.buf.now c.in_default-ring.is))
 
 pub returns-in_default-ring-clause-read : goal.returns-in_default-ring-clause-read
 returns-in_default-ring-clause-read g c =
     let t = c.args.self.now in
-    none-any (looked_at t c.args.number c.args.buf.now) _ (none-listed t c.args.number c.args.buf.now (none-of (is_waiting t c.args.number) (found_waiting t (c.args.number - first_waiting t)) (sym c.waiting_entry.ensures ∙ c.in_default.is)) (no-ring-by t c.args.number c.args.buf.now c.in_default-ring.is))
+    MatchOption-from_none (looked_at t c.args.number c.args.buf.now) _ (none-listed t c.args.number c.args.buf.now (none-of (is_waiting t c.args.number) (found_waiting t (c.args.number - first_waiting t)) (sym c.waiting_entry.ensures ∙ c.in_default.is)) (no-ring-by t c.args.number c.args.buf.now c.in_default-ring.is))
 
 pub returns-in_default-ring-clause-stands : goal.returns-in_default-ring-clause-stands
 returns-in_default-ring-clause-stands g c = λ first plan table told stands fresh.

@@ -3,6 +3,7 @@ use Rattle.std.proofs.lemmas.Option.{same_Some}
 use Rattle.std.proofs.lemmas.Result.{err_from_is_err_and}
 use Rattle.fl_base.specs.declared.types.Geometry.{Geometry}
 use Rattle.fl_base.specs.declared.types.RingPlace.{RingPlace}
+use Rattle.fl_base.proofs.Tests.{none_from}
 use Rattle.fl_flash.specs.Flash.{page_at}
 use Rattle.fl_ring.specs.Mounting.{shape_at, search_reads}
 use Rattle.fl_ring.specs.Place.{next_of, oldest_of, shape_of}
@@ -14,7 +15,7 @@ use Rattle.fl_index.specs.Memory.{oldest_in, per_page}
 use Rattle.fl_index.specs.Page.{newest_of}
 use Rattle.fl_index.specs.Standing.{RemembersBelow}
 use Rattle.fl_index.proofs.HeaderPages.{newest-header}
-use Rattle.fl_index.proofs.Lies.{lies-later, no-ring, not-running, this-ring}
+use Rattle.fl_index.proofs.Lies.{lies-later, no-ring, this-ring}
 use Rattle.fl_index.proofs.Memories.{planned-same}
 use Rattle.fl_index.proofs.MountCalls.{same-shape, refuses-ring, refuses-end, finds-end}
 use Rattle.fl_index.proofs.MountEnded.{mounting-of, limit-is, ring-fails, ring-ends, ring-mounts, no-bad-end, finds-well, end-is, bad-end}
@@ -232,7 +233,7 @@ returns-in_err-ring-clause-cause g c =
 
 pub returns-in_err-ring-clause-lies : goal.returns-in_err-ring-clause-lies
 returns-in_err-ring-clause-lies g c =
-    lies-later c.args.self.now c.forget.new.self (g.F.Flash.state c.args.flash.now) (g.F.Flash.state c.mount_with_newest.new.flash) c.forget.ensures.same c.requires.lies c.in_err-ring.ensures.mounts.beside.goes (no-ring c.forget.new.self.ring (g.F.Flash.state c.mount_with_newest.new.flash) (not-running c.forget.new.self.ring c.forget.ensures.down))
+    lies-later c.args.self.now c.forget.new.self (g.F.Flash.state c.args.flash.now) (g.F.Flash.state c.mount_with_newest.new.flash) c.forget.ensures.same c.requires.lies c.in_err-ring.ensures.mounts.beside.goes (no-ring c.forget.new.self.ring (g.F.Flash.state c.mount_with_newest.new.flash) (none_from c.forget.new.self.ring c.forget.ensures.down))
 
 pub returns-in_err-end-clause-running : goal.returns-in_err-end-clause-running
 returns-in_err-end-clause-running g c =
@@ -266,7 +267,7 @@ returns-in_err-end-clause-same g c = c.forget.ensures.same
 
 pub returns-in_err-end-clause-lies : goal.returns-in_err-end-clause-lies
 returns-in_err-end-clause-lies g c =
-    lies-later c.args.self.now c.forget.new.self (g.F.Flash.state c.args.flash.now) (g.F.Flash.state c.mount_with_newest.new.flash) c.forget.ensures.same c.requires.lies c.in_ok-ring.ensures.mounts.beside.goes (no-ring c.forget.new.self.ring (g.F.Flash.state c.mount_with_newest.new.flash) (not-running c.forget.new.self.ring c.forget.ensures.down))
+    lies-later c.args.self.now c.forget.new.self (g.F.Flash.state c.args.flash.now) (g.F.Flash.state c.mount_with_newest.new.flash) c.forget.ensures.same c.requires.lies c.in_ok-ring.ensures.mounts.beside.goes (no-ring c.forget.new.self.ring (g.F.Flash.state c.mount_with_newest.new.flash) (none_from c.forget.new.self.ring c.forget.ensures.down))
 
 pub returns-clause-running : goal.returns-clause-running
 returns-clause-running g c = refl

@@ -1,11 +1,11 @@
-use Rattle.std.proofs.Common.{ℕ, ◌<◌, Bool, Some, cond, refl, sym, ap, subst, arith}
+use Rattle.std.proofs.Common.{ℕ, ◌<◌, Bool, Some, cond, refl, sym, ap, subst, arith, not-le_of_lt}
 use Rattle.std.proofs.lemmas.Bool.{ne_eqb}
 use Rattle.fl_ring.specs.Written.{done}
 use Rattle.fl_ring.proofs.Written.{writes-none, writes-fewer}
 use Rattle.fl_index.specs.Memory.{first_in, first_waiting, next_in, MaySeal}
 use Rattle.fl_index.proofs.Rooms.{makes-nothing, makes-room}
 use Rattle.fl_frame.proofs.CallsInTurn.{goes-same}
-use Rattle.fl_index.proofs.Limits.{still-room, not-full}
+use Rattle.fl_index.proofs.Limits.{still-room}
 use Rattle.fl_index.proofs.index.BitmapIndex.make_room.Goals as goal
 
 pub returns-then-self-capacity-clause-ends : goal.returns-then-self-capacity-clause-ends
@@ -69,7 +69,7 @@ pub returns-then-self-capacity-clause-power : goal.returns-then-self-capacity-cl
 returns-then-self-capacity-clause-power g c = λ on. on
 
 pub returns-then-self-capacity-clause-off : goal.returns-then-self-capacity-clause-off
-returns-then-self-capacity-clause-off g c = λ full. absurd (not-full _ _ (subst (λ (n : ℕ). c.args.self.now.waiting < n) c.capacity.ensures.exact c.if-self-capacity.true) full)
+returns-then-self-capacity-clause-off g c = λ full. absurd (not-le_of_lt (subst (λ (n : ℕ). c.args.self.now.waiting < n) c.capacity.ensures.exact c.if-self-capacity.true) full)
 
 pub seal-requires-clause-running : goal.seal-requires-clause-running
 seal-requires-clause-running g c = c.requires.running

@@ -1,9 +1,9 @@
-use Rattle.std.proofs.Common.{◌*◌, ◌-◌, length, refl, sym, ◌∙◌, ap, le_trans, lit≤, rules, arith}
+use Rattle.std.proofs.Common.{◌*◌, ◌-◌, length, refl, sym, ◌∙◌, ap, le_trans, lit≤, rules, arith, pos_of_ne-zero}
 use Rattle.std.proofs.Math.Nat.{mul-le-mul_right, div-mul-le_self}
 use Rattle.fl_model.specs.Record.{layout_len}
 use Rattle.fl_schema.specs.Schema.{types_of, layout_of}
 use Rattle.fl_page.specs.Header.{page_count}
-use Rattle.fl_page.proofs.Views.{page_good, page_room, rows-fit, some-rows}
+use Rattle.fl_page.proofs.Views.{page_good, page_room, rows-fit}
 use Rattle.fl_page.proofs.view.PageView.of.Goals.{then-found-number-via-then-found-number, then-found-number-via-else-found-number+then-count-eq0, then-found-number-via-else-found-number+else-count-eq0+then-rows-bytes}
 use Rattle.fl_page.proofs.view.PageView.of.Goals as goal
 
@@ -35,7 +35,7 @@ overflow_sub-bytes g c = c.requires
 
 pub invariant_of-result : goal.invariant_of-result
 invariant_of-result g c = record {
-  some = some-rows _ c.if-count-eq0.false;
+  some = pos_of_ne-zero c.if-count-eq0.false;
   room = page_room _ _ _ _ (c.row_len.ensures ∙ ap layout_len (sym c.kind.ensures)) c.if-rows-bytes.false c.requires;
 }
 

@@ -3,8 +3,8 @@ use Rattle.fl_frame.specs.Contents.{contents_of}
 use Rattle.fl_machine.specs.Step.{group_reply}
 use Rattle.fl_ops.specs.Groups.{input_of, group_in, groups_left}
 use Rattle.fl_queries.specs.ListSays.{IsGroup}
-use Rattle.fl_queries.proofs.AnyLines.{each-more}
 use Rattle.std.proofs.lemmas.Result.{err_from_is_err_and}
+use Rattle.fl_model.proofs.Lists.{each-push}
 use Rattle.fl_page.specs.declared.fault.ReadFault.{ReadFault}
 use Rattle.fl_page.specs.declared.fault.ReadFault.TheVariants.{BadPage}
 use Rattle.fl_queries.proofs.group_lines.GroupLinesReplyLines.next_line.Goals as goal
@@ -13,7 +13,7 @@ never-bad : (more : Bool) (fault : ReadFault) → ◌≡◌ {A = Result Bool Rea
 never-bad more fault is = cc
 
 pub returns-in-Some-clause-makes : goal.returns-in-Some-clause-makes
-returns-in-Some-clause-makes g c = λ form first before h. each-more IsGroup before (group_reply (group_in c.in-Some.group)) h tt
+returns-in-Some-clause-makes g c = λ form first before h. each-push IsGroup before (group_reply (group_in c.in-Some.group)) h tt
 
 pub returns-in-Some-clause-steps : goal.returns-in-Some-clause-steps
 returns-in-Some-clause-steps g c = λ form told.

@@ -1,13 +1,13 @@
 use Rattle.std.proofs.Common.{◌+◌, ◌≤◌, ◌++◌, List, inl, inr, ◌∙◌, ap, arith}
 use Rattle.std.specs.Borrow.{GName}
 use Rattle.std.specs.List.{AllByRecursion}
+use Rattle.fl_model.proofs.Lists.{each-push}
 use Rattle.fl_frame.proofs.ContentsInTurn.{OnlyReads-reads}
 use Rattle.fl_frame.specs.Contents.{contents_of}
 use Rattle.fl_machine.specs.Step.{pair_reply}
 use Rattle.fl_ops.specs.Pairs.{pair_of}
 use Rattle.fl_parts.proofs.ListedPages.{any-ok}
 use Rattle.fl_queries.specs.ListSays.{IsPair}
-use Rattle.fl_queries.proofs.AnyLines.{each-more}
 use Rattle.fl_queries.proofs.LineSteps.{either-sound, makes-line, no-least, steps-map}
 use Rattle.fl_queries.proofs.pair_lines.PairLinesReplyLines.next_line.Goals as goal
 
@@ -28,7 +28,7 @@ returns-clause-fits g c = λ form h. rw (c.next_pair.ensures.left.same_schema, c
 pub returns-clause-makes : goal.returns-clause-makes
 returns-clause-makes g c = λ form first before h.
     makes-line (AllByRecursion IsPair) c.next_pair.result before (pair_reply (pair_of (g.A.RowHere.present c.next_pair.new.left) (g.B.RowHere.present c.next_pair.new.right))) h
-    (each-more IsPair before (pair_reply (pair_of (g.A.RowHere.present c.next_pair.new.left) (g.B.RowHere.present c.next_pair.new.right))) h tt)
+    (each-push IsPair before (pair_reply (pair_of (g.A.RowHere.present c.next_pair.new.left) (g.B.RowHere.present c.next_pair.new.right))) h tt)
 
 pub returns-clause-same_test : goal.returns-clause-same_test
 returns-clause-same_test g c = λ contents bad h. elim h [

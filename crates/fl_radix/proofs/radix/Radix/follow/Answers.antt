@@ -1,7 +1,8 @@
-use Rattle.std.proofs.Common.{ℕ, List, ap, refl, subst, length, arith}
+use Rattle.std.proofs.Common.{ℕ, List, ap, refl, subst, length, arith, sym, ◌∙◌}
+use Rattle.fl_base.proofs.Tests.{some_from}
 use Rattle.fl_radix.specs.Slots.{IsStart}
 use Rattle.fl_radix.specs.Radix.{IsTableOf}
-use Rattle.fl_radix.proofs.RisingKnots.{at-push, some-are, none-are, none-below, from-none, first-last}
+use Rattle.fl_radix.proofs.RisingKnots.{at-push, none-are, none-below, from-none, first-last}
 use Rattle.fl_radix.proofs.PassedSlots.{table-filled}
 use Rattle.fl_radix.proofs.radix.Radix.follow.Goals as goal
 
@@ -27,13 +28,13 @@ pub returns-then-is_empty : goal.returns-then-is_empty
 returns-then-is_empty g c = λ some. none-are _ _ c.is_empty.ensures c.if-is_empty.true (rw c.as_slice-knots.ensures.knots some)
 
 pub bounds-knots-0 : goal.bounds-knots-0
-bounds-knots-0 g c = some-are _ _ c.is_empty.ensures c.if-is_empty.false
+bounds-knots-0 g c = some_from _ (sym c.is_empty.ensures ∙ c.if-is_empty.false)
 
 pub overflow_sub-knots : goal.overflow_sub-knots
-overflow_sub-knots g c = some-are _ _ c.is_empty.ensures c.if-is_empty.false
+overflow_sub-knots g c = some_from _ (sym c.is_empty.ensures ∙ c.if-is_empty.false)
 
 pub overflow_sub-knots-2 : goal.overflow_sub-knots-2
-overflow_sub-knots-2 g c = first-last _ (rw c.as_slice-knots.ensures.knots c.as_slice-knots.ensures.rises) (some-are _ _ c.is_empty.ensures c.if-is_empty.false)
+overflow_sub-knots-2 g c = first-last _ (rw c.as_slice-knots.ensures.knots c.as_slice-knots.ensures.rises) (some_from _ (sym c.is_empty.ensures ∙ c.if-is_empty.false))
 
 pub shift_for-self-requires : goal.shift_for-self-requires
 shift_for-self-requires g c = c.args.self.now.two

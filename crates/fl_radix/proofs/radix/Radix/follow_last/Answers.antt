@@ -1,8 +1,9 @@
-use Rattle.std.proofs.Common.{arith, refl, ◌<◌, length}
+use Rattle.std.proofs.Common.{arith, refl, ◌<◌, length, sym, ◌∙◌}
+use Rattle.fl_base.proofs.Tests.{some_from}
 use Rattle.fl_spline.specs.Points.{Rises, LastMoved}
 use Rattle.fl_radix.specs.Radix.{IsTableOf}
 use Rattle.fl_radix.specs.Slots.{slot_of, last_key}
-use Rattle.fl_radix.proofs.RisingKnots.{some-are, none-are, first-last}
+use Rattle.fl_radix.proofs.RisingKnots.{none-are, first-last}
 use Rattle.fl_radix.proofs.PassedSlots.{table-moved, passed-refilled}
 use Rattle.fl_radix.proofs.radix.Radix.follow_last.Goals as goal
 
@@ -24,13 +25,13 @@ pub returns-then-is_empty : goal.returns-then-is_empty
 returns-then-is_empty g c = λ knots follows moved some. none-are _ _ c.is_empty.ensures c.if-is_empty.true (rw c.as_slice-knots.ensures.knots some)
 
 pub overflow_sub-last : goal.overflow_sub-last
-overflow_sub-last g c = some-are _ _ c.is_empty.ensures c.if-is_empty.false
+overflow_sub-last g c = some_from _ (sym c.is_empty.ensures ∙ c.if-is_empty.false)
 
 pub bounds-knots-0 : goal.bounds-knots-0
-bounds-knots-0 g c = some-are _ _ c.is_empty.ensures c.if-is_empty.false
+bounds-knots-0 g c = some_from _ (sym c.is_empty.ensures ∙ c.if-is_empty.false)
 
 pub overflow_sub-slot : goal.overflow_sub-slot
-overflow_sub-slot g c = first-last _ (rw c.as_slice-knots.ensures.knots c.as_slice-knots.ensures.rises) (some-are _ _ c.is_empty.ensures c.if-is_empty.false)
+overflow_sub-slot g c = first-last _ (rw c.as_slice-knots.ensures.knots c.as_slice-knots.ensures.rises) (some_from _ (sym c.is_empty.ensures ∙ c.if-is_empty.false))
 
 pub overflow_shr-slot : goal.overflow_shr-slot
 overflow_shr-slot g c = c.args.self.now.small

@@ -1,16 +1,17 @@
-use Rattle.std.proofs.Common.{ℕ, arith, rules, subst, le_of_lt, ◌<◌, ◌≤◌, ◌-◌, length}
+use Rattle.std.proofs.Common.{ℕ, arith, rules, subst, le_of_lt, ◌<◌, ◌≤◌, ◌-◌, length, sym, ◌∙◌}
 use Rattle.fl_spline.specs.Points.{Rises}
 use Rattle.fl_spline.specs.Segment.{IsSegment}
 use Rattle.fl_spline.specs.Spline.{kept}
 use Rattle.fl_radix.specs.Radix.{IsTableOf, shift_of}
 use Rattle.fl_base.proofs.BitsGrow.{bits-one}
-use Rattle.fl_radix.proofs.RisingKnots.{some-are, segment-in-slot, few-in-slot, most-in-slot, none-in-slot, length-range, rises-range}
+use Rattle.fl_base.proofs.Tests.{some_from}
+use Rattle.fl_radix.proofs.RisingKnots.{segment-in-slot, few-in-slot, most-in-slot, none-in-slot, length-range, rises-range}
 use Rattle.fl_radix.proofs.radix.Radix.segment.Goals as goal
 
 pub knots_near-from-requires : goal.knots_near-from-requires
 knots_near-from-requires g c =
     let ks = c.as_slice-knots.result.now in
-    let some : 0 < length c.as_slice-knots.result.now = some-are _ _ c.is_empty.ensures c.if-is_empty.false in
+    let some : 0 < length c.as_slice-knots.result.now = some_from _ (sym c.is_empty.ensures ∙ c.if-is_empty.false) in
     let rises : Rises c.as_slice-knots.result.now = rw c.as_slice-knots.ensures.knots c.as_slice-knots.ensures.rises in
     let table : IsTableOf c.as_slice-knots.result.now c.args.self.now
     = rw c.as_slice-knots.ensures.knots (c.requires (rw c.as_slice-knots.ensures.knots at some)) in
@@ -26,7 +27,7 @@ overflow_sub-result-2 g c =
     let ks = c.as_slice-knots.result.now in
     let from = c.knots_near-from.result.0 in
     let to = c.knots_near-from.result.1 in
-    let some : 0 < length c.as_slice-knots.result.now = some-are _ _ c.is_empty.ensures c.if-is_empty.false in
+    let some : 0 < length c.as_slice-knots.result.now = some_from _ (sym c.is_empty.ensures ∙ c.if-is_empty.false) in
     let table : IsTableOf c.as_slice-knots.result.now c.args.self.now
     = rw c.as_slice-knots.ensures.knots (c.requires (rw c.as_slice-knots.ensures.knots at some)) in
     (segment-in-slot ks (shift_of c.args.self.now) c.args.key from to c.knots_up_to.result some (rw table.first at c.if-key-self.false) c.knots_near-from.ensures
@@ -37,7 +38,7 @@ returns-clause-segment g c =
     let ks = c.as_slice-knots.result.now in
     let from = c.knots_near-from.result.0 in
     let to = c.knots_near-from.result.1 in
-    let some : 0 < length c.as_slice-knots.result.now = some-are _ _ c.is_empty.ensures c.if-is_empty.false in
+    let some : 0 < length c.as_slice-knots.result.now = some_from _ (sym c.is_empty.ensures ∙ c.if-is_empty.false) in
     let table : IsTableOf c.as_slice-knots.result.now c.args.self.now
     = rw c.as_slice-knots.ensures.knots (c.requires (rw c.as_slice-knots.ensures.knots at some)) in
     rw c.as_slice-knots.ensures.knots at
@@ -47,7 +48,7 @@ returns-clause-segment g c =
 pub returns-clause-few : goal.returns-clause-few
 returns-clause-few g c =
     let ks = c.as_slice-knots.result.now in
-    let some : 0 < length c.as_slice-knots.result.now = some-are _ _ c.is_empty.ensures c.if-is_empty.false in
+    let some : 0 < length c.as_slice-knots.result.now = some_from _ (sym c.is_empty.ensures ∙ c.if-is_empty.false) in
     let table : IsTableOf c.as_slice-knots.result.now c.args.self.now
     = rw c.as_slice-knots.ensures.knots (c.requires (rw c.as_slice-knots.ensures.knots at some)) in
     let few = few-in-slot ks (shift_of c.args.self.now) c.args.key c.knots_near-from.result.0 c.knots_near-from.result.1 c.knots_near-from.ensures
@@ -57,7 +58,7 @@ returns-clause-few g c =
 pub returns-clause-least : goal.returns-clause-least
 returns-clause-least g c = λ known. λ below. λ less.
     let ks = c.as_slice-knots.result.now in
-    let some : 0 < length c.as_slice-knots.result.now = some-are _ _ c.is_empty.ensures c.if-is_empty.false in
+    let some : 0 < length c.as_slice-knots.result.now = some_from _ (sym c.is_empty.ensures ∙ c.if-is_empty.false) in
     let table : IsTableOf c.as_slice-knots.result.now c.args.self.now
     = rw c.as_slice-knots.ensures.knots (c.requires (rw c.as_slice-knots.ensures.knots at some)) in
     let most = most-in-slot ks (shift_of c.args.self.now) c.args.key c.knots_near-from.result.0 c.knots_near-from.result.1 c.knots_near-from.ensures
@@ -72,7 +73,7 @@ returns-then-key-self-clause-least g c = λ known. λ below. λ less.
 
 pub returns-then-knots-key-clause-segment : goal.returns-then-knots-key-clause-segment
 returns-then-knots-key-clause-segment g c =
-    let some : 0 < length c.as_slice-knots.result.now = some-are _ _ c.is_empty.ensures c.if-is_empty.false in
+    let some : 0 < length c.as_slice-knots.result.now = some_from _ (sym c.is_empty.ensures ∙ c.if-is_empty.false) in
     let last : IsSegment c.as_slice-knots.result.now c.args.key (length c.as_slice-knots.result.now - 1) = record {
       within = omega (arith, some);
       at_most = c.if-knots-key.true;

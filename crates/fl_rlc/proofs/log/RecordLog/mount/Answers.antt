@@ -12,7 +12,7 @@ use Rattle.fl_ring.specs.Place.{next_of, oldest_of, shape_of}
 use Rattle.fl_ring.specs.Ring.{Shape}
 use Rattle.fl_ring.specs.declared.fault.RingFault.{RingFault}
 use Rattle.fl_ring.specs.declared.ring.Ring.{Ring}
-use Rattle.fl_rlc.proofs.MountsInTable.{few-read, good, mount-well, mount-badly, mount-fault, mount-err}
+use Rattle.fl_rlc.proofs.MountsInTable.{few-read, good, mount-well, mount-badly, mount-fault}
 use Rattle.fl_rlc.proofs.SealsInTable.{pages-size}
 use Rattle.fl_rlc.proofs.States.{state_of}
 use Rattle.fl_rlc.proofs.Writers.{kept-clear}
@@ -52,8 +52,8 @@ returns-in_err-ring-clause-ends g c = λ first plan table rose device watched re
     let is_good = subst (λ (x : Geometry). IsGood f (shape_at v.place x) 0 s) (sym lies.geometry) (good v f h first plan table rests sizes later watched.told) in
     let ends = subst (λ (x : Geometry). ring_mounting.MountEnds (shape_at v.place x) rose device (renumbered (shape_at v.place x) 0 s) (Err e) h) lies.geometry (c.in_err-ring.ensures.mounts.ends s rose device is_good watched) in
     let p = err_from_is_err_and c.from_residual.result c.from_residual.ensures.1 in
-    mount-err first plan table rose device v _ h c.from_residual.result e (p.1 ∙ ap (λ (x : RingFault). Err x) p.2)
-    (mount-fault first plan table rose device v _ h _ _ e ends (λ fault. mount-badly v f h first plan table rests sizes later rose device fault v))
+    mount-fault first plan table rose device v _ h _ _ c.from_residual.result e (p.1 ∙ ap (λ (x : RingFault). Err x) p.2) ends
+    (λ fault. mount-badly v f h first plan table rests sizes later rose device fault v)
 
 pub returns-clause-ends : goal.returns-clause-ends
 returns-clause-ends g c = λ first plan table rose device watched rests.

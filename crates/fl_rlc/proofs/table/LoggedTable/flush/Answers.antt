@@ -1,6 +1,7 @@
 use Rattle.std.proofs.Common.{◌≡◌, ◌≤◌, true, Result, Ok, Err, refl, sym, ◌∙◌, arith}
 use Rattle.std.proofs.lemmas.Result.{err_from_is_err_and}
 use Rattle.std.specs.Prelude.{OnOk}
+use Rattle.std.proofs.lemmas.Bool.{and_parts}
 use Rattle.fl_model.specs.Bare.{bare, bare_table}
 use Rattle.fl_parts.proofs.Sizes.{table-fits}
 use Rattle.fl_flash.specs.declared.flash.FlashFault.TheVariants.{PowerLost}
@@ -10,7 +11,7 @@ use Rattle.fl_table.specs.declared.faults.FlushFault.{FlushFault}
 use Rattle.fl_table.specs.declared.faults.FlushFault.TheVariants as flush
 use Rattle.fl_rlc.specs.Rows.{AreBegun}
 use Rattle.fl_rlc.proofs.FlushEnded.{flush-done, flush-failed, flush-idle, begun-emptied}
-use Rattle.fl_rlc.proofs.PutFrames.{logged-same, log-self, log-lies, blobs-same, room-same, some-same, and-left, begun-same, begun-lies, begun-mounted}
+use Rattle.fl_rlc.proofs.PutFrames.{logged-same, log-self, log-lies, blobs-same, room-same, some-same, begun-same, begun-lies, begun-mounted}
 use Rattle.fl_rlc.proofs.table.LoggedTable.flush.Goals as goal
 
 not-done : (e : FlushFault) → ◌≡◌ {A = Result (Unit {0}) FlushFault} (Err e) (Ok tt) → ⊥
@@ -188,14 +189,14 @@ returns-clause-flash g c = record {
 
 pub invariant_of-self : goal.invariant_of-self
 invariant_of-self g c = record {
-  running = λ l is up. c.args.self.now.running l is (and-left (table_words.is_running c.args.self.now.table) _ (sym c.flush.ensures.table.running ∙ up));
+  running = λ l is up. c.args.self.now.running l is (and_parts (table_words.is_running c.args.self.now.table) _ (sym c.flush.ensures.table.running ∙ up)).0;
   no_blobs = λ some. blobs-same c.args.self.now.table c.flush.new.self c.flush.ensures.table.same ∙ c.args.self.now.no_blobs some;
   room = room-same c.args.self.now.table c.flush.new.self c.args.self.now.log c.args.self.now.log c.flush.ensures.table.same (log-self c.args.self.now.log) c.args.self.now.room;
 }
 
 pub invariant_of-self-in-Break-1 : goal.invariant_of-self-in-Break-1
 invariant_of-self-in-Break-1 g c = record {
-  running = λ l is up. c.args.self.now.running l is (and-left (table_words.is_running c.args.self.now.table) _ (sym c.in_err-flush.ensures.table.running ∙ up));
+  running = λ l is up. c.args.self.now.running l is (and_parts (table_words.is_running c.args.self.now.table) _ (sym c.in_err-flush.ensures.table.running ∙ up)).0;
   no_blobs = λ some. blobs-same c.args.self.now.table c.flush-2.new.self c.in_err-flush.ensures.table.same ∙ c.args.self.now.no_blobs some;
   room = room-same c.args.self.now.table c.flush-2.new.self c.args.self.now.log c.args.self.now.log c.in_err-flush.ensures.table.same (log-self c.args.self.now.log) c.args.self.now.room;
 }
@@ -203,7 +204,7 @@ invariant_of-self-in-Break-1 g c = record {
 pub invariant_of-self-2 : goal.invariant_of-self-2
 invariant_of-self-2 g c = record {
   running = begun-mounted c.args.self.now.log c.begin_anew.new.log (table_words.is_running c.flush-2.new.self ≡ true) c.begin_anew.ensures.begun
-      (λ l is up. c.args.self.now.running l is (and-left (table_words.is_running c.args.self.now.table) _ (sym c.in_ok-flush.ensures.table.running ∙ up)));
+      (λ l is up. c.args.self.now.running l is (and_parts (table_words.is_running c.args.self.now.table) _ (sym c.in_ok-flush.ensures.table.running ∙ up)).0);
   no_blobs = λ some.
       blobs-same c.args.self.now.table c.flush-2.new.self c.in_ok-flush.ensures.table.same
       ∙ c.args.self.now.no_blobs (some-same c.args.self.now.log c.begin_anew.new.log (begun-same c.args.self.now.log c.begin_anew.new.log c.begin_anew.ensures.begun) some);

@@ -2,6 +2,7 @@ use Rattle.std.proofs.Common.{◌≡◌, ℕ, ◌+◌, ◌≤◌, false, Option,
 use Rattle.std.specs.Prelude.{IfSome}
 use Rattle.std.proofs.lemmas.Option.{same_Some, none-some}
 use Rattle.std.proofs.lemmas.Result.{err_from_is_err_and}
+use Rattle.std.proofs.lemmas.Bool.{both_ways}
 use Rattle.fl_base.specs.declared.types.RingPlace.{RingPlace}
 use Rattle.fl_model.specs.Bare.{bare}
 use Rattle.fl_model.specs.Record.{Plan, blocks_of, layout_len}
@@ -13,7 +14,6 @@ use Rattle.fl_table.specs.Memory as table_words
 use Rattle.fl_rlc.specs.Memory.{page_len, IsPlanned, LiesOn}
 use Rattle.fl_rlc.specs.declared.log.RecordLog.{RecordLog}
 use Rattle.fl_rlc.proofs.Planned.{logged-fits, table-refused, three-blocks, few-var}
-use Rattle.fl_rlc.proofs.PutFrames.{not-both}
 use Rattle.fl_rlc.proofs.table.LoggedTable.plan.Goals as goal
 
 pub plan-requires : goal.plan-requires
@@ -28,7 +28,7 @@ returns-in_err-table-clause-refused g c =
 pub invariant_of-result : goal.invariant_of-result
 invariant_of-result g c = record {
   running = λ l is. absurd (none-some l is);
-  no_blobs = λ some. absurd (not-both false some refl);
+  no_blobs = λ some. absurd (both_ways false refl some);
   room = λ l is. absurd (none-some l is);
 }
 
@@ -46,7 +46,7 @@ plan-requires-2-clause-blocks g c =
 
 pub invariant_of-result-2 : goal.invariant_of-result-2
 invariant_of-result-2 g c = record {
-  running = λ l is up. absurd (not-both (table_words.is_running c.in_ok-table.table) up c.in_ok-table.ensures.fresh.0);
+  running = λ l is up. absurd (both_ways (table_words.is_running c.in_ok-table.table) c.in_ok-table.ensures.fresh.0 up);
   no_blobs = λ some.
       c.in_ok-table.ensures.shape.0
       ∙ few-var c.args.config.now.var (logged-fits c.args.log c.args.config.now c.in-Some.place c.in-Some.is c.in_ok-check_with.ensures.refusal).no_blobs;

@@ -2,6 +2,8 @@ use Rattle.std.proofs.Common.{◌≡◌, ℕ, ◌+◌, ◌≤◌, Bool, true, fa
 use Rattle.std.proofs.lemmas.Result.{err_from_is_err_and}
 use Rattle.std.specs.Prelude.{IsTrue}
 use Rattle.std.proofs.lemmas.Option.{none-some}
+use Rattle.std.proofs.Math.Bool.{and-false, and-true}
+use Rattle.std.proofs.lemmas.Bool.{and_parts, both_ways}
 use Rattle.fl_flash.specs.Flash.{FlashState, page_at}
 use Rattle.fl_flash.specs.declared.flash.FlashFault.{FlashFault}
 use Rattle.fl_flash.specs.declared.flash.FlashFault.TheVariants.{PowerLost}
@@ -10,7 +12,7 @@ use Rattle.fl_model.specs.Bare.{bare, bare_table, log_of, beside}
 use Rattle.fl_model.specs.Record.{Record, RowLayout, blocks_of}
 use Rattle.fl_model.specs.Table.{put_record}
 use Rattle.fl_frame.proofs.WatchedInTurn.{watched-first, watched-then, cause-later}
-use Rattle.fl_table.proofs.PutAnswers.{map-twice, and-true}
+use Rattle.fl_table.proofs.PutAnswers.{map-twice}
 use Rattle.fl_schema.specs.Schema.{layout_of}
 use Rattle.fl_table.specs.Refusal.{RefusesAs}
 use Rattle.fl_table.specs.declared.faults.PutRefusal.{PutRefusal}
@@ -20,14 +22,13 @@ use Rattle.fl_table.specs.Memory.{HasRoom}
 use Rattle.fl_rlc.specs.Refusal.{put_refusal, NeedsNoOperation}
 use Rattle.fl_rlc.specs.Rows.{RowEnds, HaveLogged}
 use Rattle.fl_rlc.proofs.PutEnded.{logged-refused, logged-accepted, failed-ends, row-failed, row-done, bare-none, log-none}
-use Rattle.fl_rlc.proofs.PutFrames.{log-self, log-lies, blobs-same, room-same, logged-calm, refused-same, flash-alone, log-outside, some-same, and-left, not-both}
+use Rattle.fl_rlc.proofs.PutFrames.{log-self, log-lies, blobs-same, room-same, logged-calm, refused-same, flash-alone, log-outside, some-same}
 use Rattle.fl_frame.proofs.ReadsInTurn.{no_reads}
 use Rattle.fl_model.specs.Record.{layout_len}
 use Rattle.fl_model.specs.Row.{FitsRow}
 use Rattle.fl_rlc.specs.Memory.{page_len}
 use Rattle.fl_rlc.specs.Table.{is_logged, is_running, is_stopped, rings_in, MayPut}
 use Rattle.fl_ring.proofs.Written.{writes-none}
-use Rattle.fl_parts.proofs.Untouched.{and-false}
 use Rattle.fl_rlc.proofs.Written.{logged-writes, page-logged, table-writes}
 use Rattle.fl_rlc.proofs.Paged.{put-logged}
 use Rattle.fl_rlc.proofs.PowerOff.{idle-put}
@@ -228,7 +229,7 @@ returns-in-Err-clause-memory g c = record {
 
 pub returns-in-Err-clause-pages : goal.returns-in-Err-clause-pages
 returns-in-Err-clause-pages g c = record {
-  quiet = λ none idle. absurd (not-both (is_logged c.args.self.now) c.in-Err.ensures.logged idle.unlogged);
+  quiet = λ none idle. absurd (both_ways (is_logged c.args.self.now) idle.unlogged c.in-Err.ensures.logged);
   off = λ none busy down.
       let t = c.args.self.now in
       let alone = bare-none t c.args.key c.args.values.now _ none in
@@ -347,7 +348,7 @@ returns-clause-flash g c = record {
 
 pub invariant_of-self : goal.invariant_of-self
 invariant_of-self g c = record {
-  running = λ l is up. c.args.self.now.running l is (and-left (table_words.is_running c.args.self.now.table) _ (sym c.in_err-put.ensures.table.running ∙ up));
+  running = λ l is up. c.args.self.now.running l is (and_parts (table_words.is_running c.args.self.now.table) _ (sym c.in_err-put.ensures.table.running ∙ up)).0;
   no_blobs = λ some. blobs-same c.args.self.now.table c.put.new.self c.in_err-put.ensures.table.same ∙ c.args.self.now.no_blobs some;
   room = room-same c.args.self.now.table c.put.new.self c.args.self.now.log c.args.self.now.log c.in_err-put.ensures.table.same (log-self c.args.self.now.log) c.args.self.now.room;
 }
@@ -379,7 +380,7 @@ log_row-requires-clause-left g c =
     log-none t c.args.key c.args.values.now _ none
 
 pub invariant_of-self-in-Err-clause-running : goal.invariant_of-self-in-Err-clause-running
-invariant_of-self-in-Err-clause-running g c = λ l is up. absurd (not-both (table_words.is_running c.stop.new.self) up c.stop.ensures.running)
+invariant_of-self-in-Err-clause-running g c = λ l is up. absurd (both_ways (table_words.is_running c.stop.new.self) c.stop.ensures.running up)
 
 pub invariant_of-self-in-Err-clause-no_blobs : goal.invariant_of-self-in-Err-clause-no_blobs
 invariant_of-self-in-Err-clause-no_blobs g c = λ some.

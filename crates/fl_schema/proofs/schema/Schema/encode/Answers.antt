@@ -7,9 +7,9 @@ use Rattle.fl_schema.specs.Form.{key_width, columns_in}
 use Rattle.fl_model.specs.Record.{columns_len}
 use Rattle.fl_model.specs.Row.{le}
 use Rattle.fl_schema.specs.Schema.{types_of, layout_of}
-use Rattle.fl_schema.proofs.Numbers.{length-le}
+use Rattle.fl_schema.proofs.Numbers.{length-le, length-reference_bytes}
 use Rattle.fl_schema.proofs.Places.{columns-fit, length-columns_in, fits_at, place_within}
-use Rattle.fl_schema.proofs.RowColumns.{Written-more, Written-key, key-fits, key-room, row-written, row-written-blob, reference-place, back-again, length-reference_bytes, no-reference}
+use Rattle.fl_schema.proofs.RowColumns.{Written-more, Written-key, key-fits, key-room, row-written, row-written-blob, reference-place, back-again, no-reference}
 use Rattle.fl_schema.proofs.schema.Schema.encode.Goals as goal
 
 pub write-requires-in-loop-i-clause-fits : goal.write-requires-in-loop-i-clause-fits

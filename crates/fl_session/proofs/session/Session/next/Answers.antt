@@ -1,6 +1,6 @@
 use Rattle.std.proofs.Common.{◌≡◌, ◌-◌, ◌^◌, ◌<◌, rules, Some, refl, ap, subst, inl, inr, IfSome, Option, option_map, unwrap_or, length, slice_get}
+use Rattle.std.proofs.lemmas.Option.{slice_get_read}
 use Rattle.fl_flash.specs.declared.flash.Work.{Work}
-use Rattle.fl_store.proofs.TablesChanged.{item-there}
 use Rattle.fl_session.specs.declared.notes.TableCursor.{TableCursor}
 use Rattle.fl_session.proofs.LooksAt.{next-moves}
 use Rattle.fl_session.proofs.CountedReads.{has-read}
@@ -21,13 +21,13 @@ returns-in_default-clause-step g c = λ config old h. next-none _ config old _ _
 pub next_rows-written-requires-clause-running : goal.next_rows-written-requires-clause-running
 next_rows-written-requires-clause-running g c =
     let here : slice_get c.args.self.now.tables.entries.items c.in-Some.open.table ≡ Some c.index.result.now =
-    item-there c.args.self.now.tables.entries.items _ c.in-Some.open.table c.index.result.now refl (c.requires.sound.cursors c.args.cursor c.in-Some.open c.in-Some.ensures) c.index.ensures in
+    slice_get_read c.args.self.now.tables.entries.items _ c.in-Some.open.table c.index.result.now refl (c.requires.sound.cursors c.args.cursor c.in-Some.open c.in-Some.ensures) c.index.ensures in
     runs-unlogged c.table.result.now c.index.result.now c.table.ensures (c.requires.sound.running c.if-not-self.false c.in-Some.open.table c.index.result.now here)
 
 pub next_rows-written-requires-clause-lies : goal.next_rows-written-requires-clause-lies
 next_rows-written-requires-clause-lies g c =
     let here : slice_get c.args.self.now.tables.entries.items c.in-Some.open.table ≡ Some c.index.result.now =
-    item-there c.args.self.now.tables.entries.items _ c.in-Some.open.table c.index.result.now refl (c.requires.sound.cursors c.args.cursor c.in-Some.open c.in-Some.ensures) c.index.ensures in
+    slice_get_read c.args.self.now.tables.entries.items _ c.in-Some.open.table c.index.result.now refl (c.requires.sound.cursors c.args.cursor c.in-Some.open c.in-Some.ensures) c.index.ensures in
     lies-unlogged c.table.result.now c.index.result.now c.table.ensures (c.requires.sound.lie c.in-Some.open.table c.index.result.now here)
 
 pub returns-clause-sound : goal.returns-clause-sound
@@ -46,7 +46,7 @@ returns-clause-step g c = λ config old h.
     let fits : c.work-before.result.reads < 2 ^ 64 = search rules in
     let small : c.args.self.now.flash.work.reads < 2 ^ 64 = subst (λ n. n < 2 ^ 64) before fits in
     let here : slice_get c.args.self.now.tables.entries.items c.in-Some.open.table ≡ Some c.index.result.now =
-    item-there c.args.self.now.tables.entries.items _ c.in-Some.open.table c.index.result.now refl (c.requires.sound.cursors c.args.cursor c.in-Some.open c.in-Some.ensures) c.index.ensures in
+    slice_get_read c.args.self.now.tables.entries.items _ c.in-Some.open.table c.index.result.now refl (c.requires.sound.cursors c.args.cursor c.in-Some.open c.in-Some.ensures) c.index.ensures in
     let fits_after : IfSome c.in-Some.open.mark.after (λ after. after < 2 ^ 64) = search rules in
     rw c.set_cursor.ensures (next-executes _ config old _ c.index.result.now c.table.result.now _ _ _ (c.next_rows-written.new.flash.work.reads - c.args.self.now.flash.work.reads) c.args.cursor c.args.count _ c.in-Some.open c.next_rows-written.new.mark _ _ _ h c.if-not-self.false
     c.in-Some.ensures here c.table.ensures fits_after c.next_rows-written.ensures.counts (has-read _ _ c.next_rows-written.ensures.counts _ small refl) refl c.next_rows-written.ensures.nexts)
@@ -60,7 +60,7 @@ returns-in_default-clause-cause g c = inr (inl (c.if-not-self.false, c.in_defaul
 pub returns-clause-cause : goal.returns-clause-cause
 returns-clause-cause g c =
     let here : slice_get c.args.self.now.tables.entries.items c.in-Some.open.table ≡ Some c.index.result.now =
-    item-there c.args.self.now.tables.entries.items _ c.in-Some.open.table c.index.result.now refl (c.requires.sound.cursors c.args.cursor c.in-Some.open c.in-Some.ensures) c.index.ensures in
+    slice_get_read c.args.self.now.tables.entries.items _ c.in-Some.open.table c.index.result.now refl (c.requires.sound.cursors c.args.cursor c.in-Some.open c.in-Some.ensures) c.index.ensures in
     inr (inr (
       c.if-not-self.false,
       next-moves _ _ _ _ c.args.cursor c.args.count c.in-Some.open c.index.result.now _ c.next_rows-written.new.mark _ _ _ _ _ c.in-Some.ensures here c.set_cursor.ensures c.next_rows-written.ensures.counts c.table.ensures c.next_rows-written.ensures.lines,

@@ -1,10 +1,10 @@
-use Rattle.std.proofs.Common.{FitsSigned, rules, refl, sym}
+use Rattle.std.proofs.Common.{FitsSigned, rules, refl, sym, le_of_eq}
 use Rattle.std.proofs.lemmas.Int.{to_z-of_z}
 use Rattle.std.specs.Int.{w64}
 use Rattle.fl_base.specs.declared.stream.SinkFailed.{SinkFailed}
 use Rattle.fl_frame.proofs.CallsInTurn.{goes-same, stays}
 use Rattle.fl_session.proofs.StepsOf.{default-view, executes-nothing}
-use Rattle.fl_session.proofs.CommandReplies.{executes-answered, no-more}
+use Rattle.fl_session.proofs.CommandReplies.{executes-answered}
 use Rattle.fl_session.proofs.Operations.{select-by}
 use Rattle.fl_session.proofs.MountReads.{executes-mounted}
 use Rattle.fl_session.proofs.ReplyCauses.{caused-nothing, says-written}
@@ -18,7 +18,7 @@ returns-in_default g c = record {
       (λ name count step seed e. c.in_default.not-Load name count step seed e) (λ cursor name range span e. c.in_default.not-Open cursor name range span e) (λ cursor e. c.in_default.not-Close cursor e) (λ cursor count e. c.in_default.not-Next cursor count e) c.in_default.not-Cost (λ name range column op value e. c.in_default.not-Select name range column op value e) (λ name range columns e. c.in_default.not-Project name range columns e) (λ name range column width e. c.in_default.not-Agg name range column width e) (λ left right range e. c.in_default.not-Join left right range e) (λ name key e. c.in_default.not-Blob name key e)) refl;
   sound = c.requires.sound;
   goes = stays _ _ (goes-same _);
-  sink = record { later = no-more _ _ refl; failed = tt };
+  sink = record { later = le_of_eq refl; failed = tt };
   step = λ config old h.
       executes-nothing SinkFailed config old _ _ _ _ _ _ (default-view c.args.command.now c.args.room.now c.requires.runnable c.in_default.not-Mount c.in_default.not-Off (λ n kind e. c.in_default.not-Cut n kind e)
       (λ name key values blob e. c.in_default.not-Put name key values blob e) (λ name e. c.in_default.not-Flush name e) (λ name e. c.in_default.not-Stat name e) (λ name key e. c.in_default.not-Get name key e) (λ name range span e. c.in_default.not-Scan name range span e)
@@ -28,14 +28,14 @@ returns-in_default g c = record {
 pub returns-clause-step : goal.returns-clause-step
 returns-clause-step g c = λ config old h. elim c.match-command.branch [
   | in-Mount w ↦ rw (w.self-is, w.in-Mount.is) (executes-mounted config old _ _ _ _ _ h SinkFailed _ _ _ _ c.write_reply.result (w.mount-reply.ensures.step config old h) (w.mount-reply.ensures.reads h.medium.told) (w.mount-reply.ensures.limit config old h) (rw w.reply-is at c.write_reply.ensures.text))
-  | in-Off w ↦ rw (w.self-is, w.in-Off.is) (executes-answered SinkFailed config old _ _ _ _ _ _ _ c.write_reply.result (w.off-reply.ensures.step config old h) (λ moment none. (none, no-more _ _ w.off-reply.ensures.reads)) (λ moment none. tt) (rw w.reply-is at c.write_reply.ensures.text))
-  | in-Cut w ↦ rw (w.self-is, w.in-Cut.is) (executes-answered SinkFailed config old _ _ _ _ _ _ _ c.write_reply.result (w.cut-reply.ensures.step config old h) (λ moment none. (none, no-more _ _ w.cut-reply.ensures.reads)) (λ moment none. tt) (rw w.reply-is at c.write_reply.ensures.text))
-  | in-Put w ↦ rw (w.self-is, w.in-Put.is, sym w.as_slice.ensures.value, sym w.blob_in.ensures) (executes-answered SinkFailed config old _ _ _ _ _ _ _ c.write_reply.result (w.put-reply.ensures.step config old h) (λ moment none. (none, no-more _ _ w.put-reply.ensures.reads)) (λ moment none. tt) (rw w.reply-is at c.write_reply.ensures.text))
-  | in-Flush w ↦ rw (w.self-is, w.in-Flush.is) (executes-answered SinkFailed config old _ _ _ _ _ _ _ c.write_reply.result (w.flush-reply.ensures.step config old h) (λ moment none. (none, no-more _ _ w.flush-reply.ensures.reads)) (λ moment none. tt) (rw w.reply-is at c.write_reply.ensures.text))
-  | in-Stat w ↦ rw (w.self-is, w.in-Stat.is) (executes-answered SinkFailed config old _ _ _ _ _ _ _ c.write_reply.result (w.stat-reply.ensures.step config old h) (λ moment none. (none, no-more _ _ refl)) (λ moment none. tt) (rw w.reply-is at c.write_reply.ensures.text))
-  | in-Open w ↦ rw (w.self-is, w.in-Open.is) (executes-answered SinkFailed config old _ _ _ _ _ _ _ c.write_reply.result (w.open-reply.ensures.step config old h) (λ moment none. (none, no-more _ _ w.open-reply.ensures.reads)) (λ moment none. tt) (rw w.reply-is at c.write_reply.ensures.text))
-  | in-Close w ↦ rw (w.self-is, w.in-Close.is) (executes-answered SinkFailed config old _ _ _ _ _ _ _ c.write_reply.result (w.close-reply.ensures.step config old h) (λ moment none. (none, no-more _ _ w.close-reply.ensures.reads)) (λ moment none. tt) (rw w.reply-is at c.write_reply.ensures.text))
-  | in-Cost w ↦ rw (w.self-is, w.in-Cost.is) (executes-answered SinkFailed config old _ _ _ _ _ _ _ c.write_reply.result (w.cost-reply.ensures.step config old h) (λ moment none. (none, no-more _ _ refl)) (λ moment none. tt) (rw w.reply-is at c.write_reply.ensures.text))
+  | in-Off w ↦ rw (w.self-is, w.in-Off.is) (executes-answered SinkFailed config old _ _ _ _ _ _ _ c.write_reply.result (w.off-reply.ensures.step config old h) (λ moment none. (none, le_of_eq w.off-reply.ensures.reads)) (λ moment none. tt) (rw w.reply-is at c.write_reply.ensures.text))
+  | in-Cut w ↦ rw (w.self-is, w.in-Cut.is) (executes-answered SinkFailed config old _ _ _ _ _ _ _ c.write_reply.result (w.cut-reply.ensures.step config old h) (λ moment none. (none, le_of_eq w.cut-reply.ensures.reads)) (λ moment none. tt) (rw w.reply-is at c.write_reply.ensures.text))
+  | in-Put w ↦ rw (w.self-is, w.in-Put.is, sym w.as_slice.ensures.value, sym w.blob_in.ensures) (executes-answered SinkFailed config old _ _ _ _ _ _ _ c.write_reply.result (w.put-reply.ensures.step config old h) (λ moment none. (none, le_of_eq w.put-reply.ensures.reads)) (λ moment none. tt) (rw w.reply-is at c.write_reply.ensures.text))
+  | in-Flush w ↦ rw (w.self-is, w.in-Flush.is) (executes-answered SinkFailed config old _ _ _ _ _ _ _ c.write_reply.result (w.flush-reply.ensures.step config old h) (λ moment none. (none, le_of_eq w.flush-reply.ensures.reads)) (λ moment none. tt) (rw w.reply-is at c.write_reply.ensures.text))
+  | in-Stat w ↦ rw (w.self-is, w.in-Stat.is) (executes-answered SinkFailed config old _ _ _ _ _ _ _ c.write_reply.result (w.stat-reply.ensures.step config old h) (λ moment none. (none, le_of_eq refl)) (λ moment none. tt) (rw w.reply-is at c.write_reply.ensures.text))
+  | in-Open w ↦ rw (w.self-is, w.in-Open.is) (executes-answered SinkFailed config old _ _ _ _ _ _ _ c.write_reply.result (w.open-reply.ensures.step config old h) (λ moment none. (none, le_of_eq w.open-reply.ensures.reads)) (λ moment none. tt) (rw w.reply-is at c.write_reply.ensures.text))
+  | in-Close w ↦ rw (w.self-is, w.in-Close.is) (executes-answered SinkFailed config old _ _ _ _ _ _ _ c.write_reply.result (w.close-reply.ensures.step config old h) (λ moment none. (none, le_of_eq w.close-reply.ensures.reads)) (λ moment none. tt) (rw w.reply-is at c.write_reply.ensures.text))
+  | in-Cost w ↦ rw (w.self-is, w.in-Cost.is) (executes-answered SinkFailed config old _ _ _ _ _ _ _ c.write_reply.result (w.cost-reply.ensures.step config old h) (λ moment none. (none, le_of_eq refl)) (λ moment none. tt) (rw w.reply-is at c.write_reply.ensures.text))
 ]
 
 pub returns-clause-sound : goal.returns-clause-sound

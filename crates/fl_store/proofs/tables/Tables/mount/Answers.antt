@@ -1,6 +1,7 @@
 use Rattle.std.proofs.Common.{rules, ◌≡◌, ℕ, ◌+◌, true, IsTrue, Some, List, length, refl, sym, ◌∙◌, ap, subst, arith, slice_get, length-set, take_all}
 use Rattle.std.proofs.lemmas.Option.{slice_get_within}
 use Rattle.fl_base.specs.declared.types.Geometry.{Geometry}
+use Rattle.fl_base.proofs.Risen.{rose-front, rose-back}
 use Rattle.fl_flash.specs.Flash.{page_at}
 use Rattle.fl_frame.specs.Watched.{IsWatched}
 use Rattle.fl_rlc.specs.Table.{NothingWaits, is_running}
@@ -13,7 +14,6 @@ use Rattle.fl_store.specs.Mounting.{MountsInTurn, OutsideStands, repairs_of}
 use Rattle.fl_store.specs.Tables.{first_of}
 use Rattle.fl_store.specs.declared.tables.Entry.{Entry}
 use Rattle.fl_store.proofs.InTurn.{turn-before, turn-more, repairs-none, repairs-more, outside-none, outside-more}
-use Rattle.fl_store.proofs.CallsInTurn.{rose-front, rose-back}
 use Rattle.fl_store.proofs.TablesLie.{each-more, lie-with}
 use Rattle.fl_store.proofs.Planned.{names-still, names-with, plans-still, plans-with}
 use Rattle.fl_store.proofs.MountedSoFar.{mounted-none, mounted-more, mounted-err, mounted-all, own, was, was_at, stood}

@@ -1,11 +1,10 @@
-use Rattle.std.proofs.Common.{◌+◌, Option, subst, refl}
+use Rattle.std.proofs.Common.{◌+◌, Option, subst, refl, le-add_right}
 use Rattle.fl_index.specs.Looking.{entire}
 use Rattle.fl_index.specs.declared.index.BitmapIndex.{BitmapIndex}
 use Rattle.fl_parts.specs.Skipping.{AreFresh}
 use Rattle.fl_parts.proofs.Skipping.{bad-answer, looks-from, looks-up, fresh-still}
 use Rattle.fl_table.proofs.Entries.{shows-found}
 use Rattle.fl_table.proofs.IndexStands.{index-stands}
-use Rattle.fl_parts.proofs.Untouched.{at-most}
 use Rattle.fl_frame.proofs.ContentsInTurn.{OnlyReads-same}
 use Rattle.fl_table.proofs.table.Table.entry_of.Goals as goal
 
@@ -54,7 +53,7 @@ pub returns-in-Some-clause-cause : goal.returns-in-Some-clause-cause
 returns-in-Some-clause-cause g c = c.entry_of.ensures.cause
 
 pub returns-in-None-clause-one : goal.returns-in-None-clause-one
-returns-in-None-clause-one g c = at-most _ 1
+returns-in-None-clause-one g c = le-add_right _ 1
 
 pub returns-in-None-clause-room : goal.returns-in-None-clause-room
 returns-in-None-clause-room g c = refl

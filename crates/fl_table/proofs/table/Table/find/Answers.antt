@@ -1,4 +1,4 @@
-use Rattle.std.proofs.Common.{◌≡◌, ◌≤◌, ◌<◌, ℕ, min, true, false, Option, None, Some, option_map, Ok, length, refl, sym, ◌∙◌, ap, subst, arith}
+use Rattle.std.proofs.Common.{◌≡◌, ◌≤◌, ◌<◌, ℕ, min, false, Option, None, Some, option_map, Ok, length, refl, sym, ◌∙◌, ap, subst, arith, le-add_right}
 use Rattle.std.specs.Prelude.{IfSome, MatchOption}
 use Rattle.std.specs.Option.{IsSomeAnd}
 use Rattle.std.proofs.lemmas.Bool.{false≢true}
@@ -18,7 +18,7 @@ use Rattle.fl_table.specs.declared.table.Table.{Table}
 use Rattle.fl_parts.proofs.IndexOfTable.{none-is}
 use Rattle.fl_table.proofs.ReadsKeepTable.{lies-read, most-kept}
 use Rattle.fl_parts.proofs.Sizes.{table-fits, index-fits}
-use Rattle.fl_parts.proofs.Untouched.{at-most, at-most-two}
+use Rattle.fl_parts.proofs.Untouched.{at-most-two}
 use Rattle.fl_table.proofs.table.Table.find.Goals as goal
 
 -- each answer of a look is a place
@@ -49,7 +49,7 @@ returns-then-is_pending_key-clause-find g c = record {
       subst (λ (o : Option RowAt). Finds g.row.KNOTS plan table c.args.key f.work.reads f.work.reads c.args.buf.now (Ok o)) (sym e)
       (finds-pending c.args.self.now f first plan table stands c.args.key f.work.reads f.work.reads c.args.buf.now c.pending_place.result
       (sym (c.is_pending_key.ensures.stands f first plan table stands) ∙ c.if-is_pending_key.true) (found-stored c.args.self.now f first plan table stands c.args.key c.pending_place.result c.pending_place.ensures.found));
-  reads = λ first plan table told stands. at-most _ _;
+  reads = λ first plan table told stands. le-add_right _ _;
   pending = λ first plan table stands is.
       let f = g.F.Flash.state c.args.flash.now in
       let e : c.map.result ≡ option_map at.Pending c.pending_place.result = mapped at.Pending c.pending_place.result c.map.result c.map.ensures.cases in (

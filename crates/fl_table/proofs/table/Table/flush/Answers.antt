@@ -8,13 +8,13 @@ use Rattle.fl_table.specs.declared.faults.FlushFault.TheVariants as flush
 use Rattle.fl_parts.proofs.CallsOff.{off-ok}
 use Rattle.fl_parts.proofs.Sizes.{table-fits}
 use Rattle.std.proofs.lemmas.Bool.{true≢false}
+use Rattle.std.proofs.Math.Bool.{and-false, and-true}
 use Rattle.fl_frame.specs.Causes.{CausedBy}
 use Rattle.fl_table.specs.Causes.{FlushCausedBy}
 use Rattle.fl_table.proofs.Sealing.{changes-done, changes-failed, changes-none}
 use Rattle.fl_table.specs.Memory.{is_running}
 use Rattle.fl_table.specs.declared.faults.FlushFault.{FlushFault}
-use Rattle.fl_table.proofs.PutAnswers.{and-true}
-use Rattle.fl_parts.proofs.Untouched.{and-false, no-ring, on-err, no-success}
+use Rattle.fl_parts.proofs.Untouched.{no-ring, on-err, no-success}
 use Rattle.fl_table.specs.Memory.{MaySeal}
 use Rattle.fl_table.specs.Mounting.{rings_in, OutsideStands}
 use Rattle.fl_table.proofs.table.Table.flush.Goals as goal

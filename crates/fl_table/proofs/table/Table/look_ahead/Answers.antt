@@ -1,4 +1,4 @@
-use Rattle.std.proofs.Common.{◌+◌, Option, Result, Ok, Err, sym, ap, subst, ◌≡◌, [], ◌∙◌, refl, length}
+use Rattle.std.proofs.Common.{◌+◌, Option, Result, Ok, Err, sym, ap, subst, ◌≡◌, [], ◌∙◌, refl, length, le-add_right}
 use Rattle.fl_base.specs.declared.types.Span.{Span}
 use Rattle.fl_flash.specs.Buffer.{BufferState}
 use Rattle.fl_flash.specs.Flash.{page_at}
@@ -7,15 +7,14 @@ use Rattle.fl_index.specs.declared.page.Found.{Found}
 use Rattle.fl_index.specs.Looking.{ShowsEntry, next_to_read}
 use Rattle.fl_model.specs.Image.{rows_at}
 use Rattle.fl_model.specs.Query.{selected}
+use Rattle.fl_index.proofs.LookupsOfTable.{told-some}
 use Rattle.fl_page.specs.declared.fault.ReadFault.{ReadFault}
 use Rattle.fl_parts.specs.declared.ahead.Ahead.{Ahead}
 use Rattle.fl_parts.specs.declared.ahead.Ahead.TheVariants.{Wanted, Missed}
 use Rattle.fl_parts.specs.Skipping.{AreFresh, AreScanning, LooksOn, ShowsPage}
 use Rattle.fl_parts.proofs.Skipping.{fresh-still, looks-none, looks-plain, looks-found, looks-failed, bad-index, looked-up, unasked-up, unindexed-up, shows-none, shows-unindexed, shows-some, shows-fault, told-by}
 use Rattle.fl_table.proofs.IndexStands.{index-stands, some-bits}
-use Rattle.fl_parts.proofs.EntriesFit.{told-some}
 use Rattle.fl_table.proofs.Entries.{first-few}
-use Rattle.fl_parts.proofs.Untouched.{at-most}
 use Rattle.fl_parts.proofs.IndexOfTable.{none-there}
 use Rattle.fl_frame.proofs.ContentsInTurn.{OnlyReads-same}
 use Rattle.fl_table.proofs.table.Table.look_ahead.Goals as goal
@@ -145,7 +144,7 @@ returns-in-Ok-Some-clause-fresh g c = λ told.
     fresh-still c.args.self.now.bitmaps c.in-Some-bitmaps.index c.in-Some-bitmaps.is (g.F.Flash.state c.args.flash.now) (g.F.Flash.state c.entry_of.new.flash) c.args.buf.now c.entry_of.new.buf (c.in-Ok-Some.ensures.fresh told)
 
 pub returns-in_default-clause-one : goal.returns-in_default-clause-one
-returns-in_default-clause-one g c = at-most _ 1
+returns-in_default-clause-one g c = le-add_right _ 1
 
 pub returns-in_default-clause-room : goal.returns-in_default-clause-room
 returns-in_default-clause-room g c = refl
@@ -172,7 +171,7 @@ pub returns-in_default-clause-cause : goal.returns-in_default-clause-cause
 returns-in_default-clause-cause g c = tt
 
 pub returns-in_default-bitmaps-clause-one : goal.returns-in_default-bitmaps-clause-one
-returns-in_default-bitmaps-clause-one g c = at-most _ 1
+returns-in_default-bitmaps-clause-one g c = le-add_right _ 1
 
 pub returns-in_default-bitmaps-clause-room : goal.returns-in_default-bitmaps-clause-room
 returns-in_default-bitmaps-clause-room g c = refl

@@ -1,4 +1,4 @@
-use Rattle.std.proofs.Common.{ℕ, zero, suc, ◌*◌, ◌≡◌, ◌+◌, ◌<◌, ◌≤◌, List, [], length, arith, Ok, sym, ◌∙◌, refl, subst}
+use Rattle.std.proofs.Common.{ℕ, zero, suc, ◌*◌, ◌≡◌, ◌+◌, ◌<◌, ◌≤◌, List, [], length, arith, Ok, sym, ◌∙◌, refl, subst, le-add_right, le_of_eq, not-le_of_lt}
 use Rattle.std.proofs.lemmas.Bool.{ltb-true, ltb-false}
 use Rattle.fl_model.specs.Record.{layout_len}
 use Rattle.fl_model.specs.Table.{RingName, make_room_seals}
@@ -15,7 +15,7 @@ use Rattle.fl_table.specs.Memory.{HasRoom, next_in}
 use Rattle.fl_table.specs.Stored.{IsEmptied}
 use Rattle.fl_parts.proofs.BlobsOfTable.{after-most}
 use Rattle.fl_table.specs.Paged.{HasFlushed}
-use Rattle.fl_parts.proofs.Untouched.{at-most, at-most-same, above, on-ok}
+use Rattle.fl_parts.proofs.Untouched.{on-ok}
 use Rattle.fl_table.specs.Memory.{MaySeal}
 use Rattle.fl_table.specs.Mounting.{rings_in}
 use Rattle.fl_table.proofs.table.Table.make_room.Goals as goal
@@ -93,13 +93,13 @@ pub returns-then-not-is_full-clause-running : goal.returns-then-not-is_full-clau
 returns-then-not-is_full-clause-running g c = c.requires.running
 
 pub returns-then-not-is_full-clause-next : goal.returns-then-not-is_full-clause-next
-returns-then-not-is_full-clause-next g c = at-most _ _
+returns-then-not-is_full-clause-next g c = le-add_right _ _
 
 pub returns-then-not-is_full-clause-index_next : goal.returns-then-not-is_full-clause-index_next
-returns-then-not-is_full-clause-index_next g c = at-most _ _
+returns-then-not-is_full-clause-index_next g c = le-add_right _ _
 
 pub returns-then-not-is_full-clause-blob_next : goal.returns-then-not-is_full-clause-blob_next
-returns-then-not-is_full-clause-blob_next g c = at-most _ _
+returns-then-not-is_full-clause-blob_next g c = le-add_right _ _
 
 pub returns-then-not-is_full-clause-calm : goal.returns-then-not-is_full-clause-calm
 returns-then-not-is_full-clause-calm g c = refl
@@ -126,7 +126,7 @@ pub returns-clause-stopped : goal.returns-clause-stopped
 returns-clause-stopped g c = c.seal.ensures.stopped
 
 pub returns-clause-quiet : goal.returns-clause-quiet
-returns-clause-quiet g c = λ room. absurd (above (ltb-true (length c.args.self.now.writer.body) (c.args.self.now.writer.end + layout_len (layout_of c.args.self.now.schema)) (sym c.is_full.ensures.room ∙ c.if-not-is_full.false)) room)
+returns-clause-quiet g c = λ room. absurd (not-le_of_lt (ltb-true (length c.args.self.now.writer.body) (c.args.self.now.writer.end + layout_len (layout_of c.args.self.now.schema)) (sym c.is_full.ensures.room ∙ c.if-not-is_full.false)) room)
 
 pub returns-clause-off : goal.returns-clause-off
 returns-clause-off g c = λ full. c.seal.ensures.off
@@ -138,7 +138,7 @@ returns-then-not-is_full-clause-full g c = λ full.
 
 pub returns-clause-next : goal.returns-clause-next
 returns-clause-next g c =
-    on-ok c.seal.result (IsEmptied c.args.self.now c.seal.new.self) (next_in c.seal.new.self ≤ next_in c.args.self.now + 1) (λ sealed. at-most-same _ _ sealed.next) c.seal.ensures.emptied
+    on-ok c.seal.result (IsEmptied c.args.self.now c.seal.new.self) (next_in c.seal.new.self ≤ next_in c.args.self.now + 1) (λ sealed. le_of_eq sealed.next) c.seal.ensures.emptied
 
 pub returns-clause-blob_next : goal.returns-clause-blob_next
 returns-clause-blob_next g c =

@@ -1,7 +1,7 @@
 use Rattle.std.proofs.Common.{arith, ◌*◌, ◌≡◌, ◌+◌, ◌-◌, Option, Err, IsTrue, refl, sym, ◌∙◌, ap, subst, inl, inr, is_some}
 use Rattle.std.proofs.lemmas.Result.{err_from_is_err_and, IfErr-weaker, IfOk-weaker}
 use Rattle.fl_flash.specs.Flash.{FlashState, page_at}
-use Rattle.fl_frame.proofs.CallsInTurn.{goes-then}
+use Rattle.fl_frame.proofs.CallsInTurn.{goes-then, few-goes}
 use Rattle.std.specs.Option.{unwrap_or}
 use Rattle.fl_index.specs.declared.index.BitmapIndex.{BitmapIndex}
 use Rattle.fl_base.specs.declared.types.Geometry.{Geometry}
@@ -24,7 +24,7 @@ use Rattle.fl_ring.specs.declared.fault.RingFault.{RingFault}
 use Rattle.fl_parts.specs.Faults.{of_ring}
 use Rattle.fl_parts.specs.Blobs as variable
 use Rattle.fl_parts.proofs.BlobsOfTable as blobbing
-use Rattle.fl_parts.proofs.IndexOfTable.{few-goes, none-is, none-there, still-few}
+use Rattle.fl_parts.proofs.IndexOfTable.{none-is, none-there, still-few}
 use Rattle.fl_var.specs.declared.var_data.VarData.{VarData}
 use Rattle.fl_parts.proofs.Sizes.{table-fits}
 use Rattle.fl_parts.proofs.PowerOn.{on-then}

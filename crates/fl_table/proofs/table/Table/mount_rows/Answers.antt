@@ -18,7 +18,6 @@ use Rattle.fl_table.proofs.Learned.{finds-rows}
 use Rattle.fl_parts.proofs.MountParts.{mount-cause-later}
 use Rattle.fl_parts.proofs.BlobSeals.{with_var}
 use Rattle.fl_table.proofs.MountVar.{data-fails, mounted-ends, rows-fail, rows-mount, var-limit}
-use Rattle.fl_parts.proofs.ListedPages.{data-lies}
 use Rattle.fl_parts.proofs.Loose.{paged-ready}
 use Rattle.fl_base.specs.declared.types.Geometry.{Geometry}
 use Rattle.fl_base.specs.declared.types.RingPlace.{RingPlace}
@@ -26,6 +25,7 @@ use Rattle.fl_ring.specs.Mounting.{shape_at}
 use Rattle.fl_ring.specs.Place as place
 use Rattle.fl_ring.specs.Place.{next_of, shape_of}
 use Rattle.fl_ring.specs.declared.ring.Ring.{Ring}
+use Rattle.fl_ring.proofs.Exists.{lies_still}
 use Rattle.fl_parts.proofs.IndexOfTable.{none-is, plan-same}
 use Rattle.fl_table.proofs.ReadsKeepTable.{lies-moved}
 use Rattle.fl_parts.proofs.Sizes.{table-fits}
@@ -181,7 +181,7 @@ returns-clause-memory g c =
     let new = g.F.Flash.state c.mount_within.new.flash in
     let goes = c.in_ok-mount_within.ensures.goes in
     let lies = lies-moved c.read_rows.new.self (g.F.Flash.state c.read_rows.new.flash) new goes c.in_ok-rows.ensures.leaves.lies in
-    let here = data-lies c.in_ok-rows.rows.ring (g.F.Flash.state c.read_rows.new.flash) new goes c.in_ok-rows.ensures.found.lies in
+    let here = lies_still c.in_ok-rows.rows.ring (g.F.Flash.state c.read_rows.new.flash) new c.in_ok-rows.ensures.found.lies goes in
     record {
       same =
           same-then c.args.self.now c.read_rows.new.self _ c.in_ok-rows.ensures.leaves.same (record { geometry = refl; layout = refl; place = refl; buckets = refl; error = refl; bitmaps = plan-same c.read_rows.new.self.bitmaps; blobs = c.in_ok-mount_within.ensures.same; limit = refl });

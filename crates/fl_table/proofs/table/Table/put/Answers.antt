@@ -1,13 +1,14 @@
 use Rattle.std.proofs.Common.{refl, ◌≡◌, ◌+◌, ℕ, Bor, List, Option, Some, None, Result, Ok, Err, length, option_map, not, ◌&&◌, ◌||◌, arith, sym, ◌∙◌, ap, subst}
 use Rattle.std.proofs.lemmas.Result.{err_from_is_err_and}
 use Rattle.std.proofs.lemmas.Option.{none-some}
+use Rattle.std.proofs.Math.Bool.{and-false, and-true}
 use Rattle.fl_model.specs.Table.{after_seals, make_room_seals}
 use Rattle.fl_table.specs.Refusal.{put_refusal, RefusesAs}
 use Rattle.fl_table.specs.Memory.{is_running, is_stopped, pending_in}
 use Rattle.fl_table.specs.declared.table.Table.{Table}
 use Rattle.fl_table.proofs.Refusals.{fits-row, told-running, calm-cause, few-blob, not-spent, refusal-calm, calm-same}
 use Rattle.fl_frame.proofs.WatchedInTurn.{watched-first, watched-then}
-use Rattle.fl_table.proofs.PutAnswers.{accepts, and-true, broken-ends, join-fails, map-twice, put-ends, refused-ends}
+use Rattle.fl_table.proofs.PutAnswers.{accepts, broken-ends, join-fails, map-twice, put-ends, refused-ends}
 use Rattle.fl_flash.specs.declared.flash.FlashFault.{FlashFault}
 use Rattle.fl_flash.specs.declared.flash.FlashFault.TheVariants.{PowerLost}
 use Rattle.fl_table.specs.declared.faults.PutRefusal.{PutRefusal}
@@ -19,7 +20,7 @@ use Rattle.fl_schema.specs.Schema.{layout_of}
 use Rattle.fl_table.proofs.SealAnswers.{same-then, plan-self}
 use Rattle.fl_parts.proofs.Sizes.{table-fits}
 use Rattle.fl_parts.specs.Blobs.{most_pages, pages_for}
-use Rattle.fl_parts.proofs.Untouched.{and-false, on-err, no-success}
+use Rattle.fl_parts.proofs.Untouched.{on-err, no-success}
 use Rattle.fl_table.specs.Memory.{MayPut}
 use Rattle.fl_table.specs.Stored.{HasJoined}
 use Rattle.fl_table.specs.Mounting.{rings_in, OutsideStands}

@@ -4,7 +4,6 @@ use Rattle.fl_find.specs.Index.{error_in}
 use Rattle.fl_model.specs.MountLimit.{repaired}
 use Rattle.fl_model.specs.Table.{DataRing}
 use Rattle.fl_parts.proofs.BlobsOfTable as blobbing
-use Rattle.fl_parts.proofs.ListedPages.{data-lies}
 use Rattle.fl_parts.proofs.IndexOfTable.{lies-goes, none-is, none-there, still-few}
 use Rattle.fl_parts.proofs.Sizes.{index-fits}
 use Rattle.fl_parts.proofs.Untouched.{no-success}
@@ -14,6 +13,7 @@ use Rattle.fl_ring.specs.Place.{next_of, oldest_of, shape_of}
 use Rattle.fl_ring.specs.Ring.{room}
 use Rattle.fl_ring.specs.declared.fault.RingFault.{RingFault}
 use Rattle.fl_ring.specs.declared.ring.Ring.{Ring}
+use Rattle.fl_ring.proofs.Exists.{lies_still}
 use Rattle.fl_table.proofs.MountCalls.{same-shape, index-still, refuses-ring, refuses-end, refuses-page, finds-data, finds-firsts, learns, same-waits}
 use Rattle.fl_parts.proofs.MountParts.{ring-cause, pages-cause}
 use Rattle.fl_table.proofs.MountEnded.{mounting-of, ring-fails, ring-ends, ring-mounts, ends-within}
@@ -290,7 +290,7 @@ returns-clause-found g c =
     rw (next, oldest) (record {
       shape = mounts.shape ∙ same-shape t t old (plan-self t) lies.geometry;
       follow = kept.found.follow;
-      lies = data-lies ring mid new kept.leaves.reads.goes mounts.lies;
+      lies = lies_still ring mid new mounts.lies kept.leaves.reads.goes;
       power = λ on. kept.leaves.reads.power ∙ mounts.power;
       found = λ told. finds-data t t old mid new _ (plan-self t) c.requires.lies.geometry kept.leaves.reads t.bitmaps ring c.args.end mounts.found mounts.shape within refl (error_in t.index) c.in_ok-known.known _ c.read_kept.new.index kept.found.counted (known (still told));
       learned = λ told. learns t t old mid new _ (plan-self t) c.requires.lies.geometry kept.leaves.reads t.bitmaps ring c.args.end mounts.found mounts.shape within refl (error_in t.index) c.in_ok-known.known _ c.read_kept.new.index kept.found.counted (known (still told));

@@ -1,4 +1,4 @@
-use Rattle.std.proofs.Common.{rules, ◌<◌, ◌≤◌, Err, inr, refl, sym, ◌∙◌, arith, ◌+◌, ◌/◌, ap, drop}
+use Rattle.std.proofs.Common.{rules, ◌<◌, ◌≤◌, Err, inr, refl, sym, ◌∙◌, arith, ◌+◌, ◌/◌, ap, drop, pos_of_ne-zero, not-le_of_lt}
 use Rattle.fl_var.specs.Blobs.{Begins, contents_in}
 use Rattle.fl_var.specs.Memory.{room_in, image_in, present}
 use Rattle.fl_var.proofs.Found.{found-none, found-some, found-err, found-empty}
@@ -9,8 +9,7 @@ use Rattle.std.proofs.Math.Nat.{le_refl, le_trans, le_of_lt}
 use Rattle.std.proofs.lemmas.Bool.{false≢true, lt-ltb}
 use Rattle.fl_frame.proofs.ContentsInTurn.{OnlyReads-same}
 use Rattle.fl_frame.proofs.ReadsInTurn.{none_read}
-use Rattle.fl_var.proofs.Readers.{least, none-and-some, no-slice, present-still, opens-err, same-ok, err-ok, no-more}
-use Rattle.fl_var.proofs.Lists.{not-none}
+use Rattle.fl_var.proofs.Readers.{least, none-and-some, no-slice, present-still, opens-err, same-ok, err-ok}
 use Rattle.fl_base.specs.declared.types.BlobRef.{BlobRef}
 use Rattle.fl_var.proofs.reader.BlobReader.open.Goals as goal
 
@@ -229,7 +228,7 @@ pub find_first-requires-clause-room : goal.find_first-requires-clause-room
 find_first-requires-clause-room g c = c.args.self.now.size
 
 pub find_first-requires-clause-some : goal.find_first-requires-clause-some
-find_first-requires-clause-some g c = not-none c.args.at.length c.if-at-eq0.false
+find_first-requires-clause-some g c = pos_of_ne-zero c.if-at-eq0.false
 
 pub invariant_of-self : goal.invariant_of-self
 invariant_of-self g c = record { mounted = c.args.self.now.mounted; ordered = le_refl c.args.self.now.end; before = le_refl c.args.self.now.end; within = c.args.self.now.within; size = c.args.self.now.size; known = c.args.self.now.known; fits = le_trans c.args.self.now.before c.args.self.now.fits; all = c.args.self.now.within }
@@ -260,4 +259,4 @@ returns-then-at-eq0-clause-finds g c =
     let r = c.args.self.now in
     let none = sym (ap (λ (x : BlobRef). x.length) at_is) ∙ c.if-at-eq0.true in
     let h = found-empty table stands.ring.ring entry bytes stands.ring.ring_is blob_is none (drop r.end (contents_in r.var.now (g.F.Flash.state c.args.flash.now) r.page)) in
-    (h.0, h.1, λ left. absurd (no-more 0 0 left (least 0)))
+    (h.0, h.1, λ left. absurd (not-le_of_lt left (least 0)))

@@ -1,4 +1,4 @@
-use Rattle.std.proofs.Common.{Err, sym, ◌∙◌, ap, arith, ◌+◌, ◌≤◌, refl, subst}
+use Rattle.std.proofs.Common.{Err, sym, ◌∙◌, ap, arith, ◌+◌, ◌≤◌, refl, subst, pos_of_ne-zero}
 use Rattle.std.proofs.lemmas.Result.{err_from_is_err_and}
 use Rattle.fl_page.specs.declared.fault.ReadFault.{ReadFault}
 use Rattle.fl_var.proofs.Wholes.{none-bad-any, steps-err}
@@ -10,7 +10,6 @@ use Rattle.fl_var.specs.Memory.{present, LiesOn}
 use Rattle.fl_var.specs.Reading.{pages_left}
 use Rattle.fl_var.specs.declared.var_data.VarData.{VarData}
 use Rattle.fl_var.proofs.Readers.{more-none, more-some, no-slice, take-none, no-chunk}
-use Rattle.fl_var.proofs.Lists.{not-none}
 use Rattle.fl_var.proofs.reader.BlobReader.step.Goals as goal
 
 pub returns-in_err-turn-clause-steps : goal.returns-in_err-turn-clause-steps
@@ -214,7 +213,7 @@ pub turn-requires-clause-lies : goal.turn-requires-clause-lies
 turn-requires-clause-lies g c = c.requires.lies
 
 pub turn-requires-clause-left : goal.turn-requires-clause-left
-turn-requires-clause-left g c = not-none c.args.self.now.left c.if-self-eq0.false
+turn-requires-clause-left g c = pos_of_ne-zero c.if-self-eq0.false
 
 pub turn-requires-clause-empty : goal.turn-requires-clause-empty
 turn-requires-clause-empty g c = refl
@@ -223,7 +222,7 @@ pub take-requires-clause-some : goal.take-requires-clause-some
 take-requires-clause-some g c = c.in_ok-turn.ensures.some
 
 pub take-requires-clause-left : goal.take-requires-clause-left
-take-requires-clause-left g c = subst (λ n. 1 ≤ n) (sym c.turn.ensures.left) (not-none c.args.self.now.left c.if-self-eq0.false)
+take-requires-clause-left g c = subst (λ n. 1 ≤ n) (sym c.turn.ensures.left) (pos_of_ne-zero c.if-self-eq0.false)
 
 pub take-requires-clause-empty : goal.take-requires-clause-empty
 take-requires-clause-empty g c = c.turn.ensures.empty

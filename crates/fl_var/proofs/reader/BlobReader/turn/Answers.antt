@@ -1,4 +1,4 @@
-use Rattle.std.proofs.Common.{◌≡◌, ◌+◌, ◌-◌, ◌<◌, ℕ, List, Option, IfSome, length, take, drop, sym, ◌∙◌, ap, subst, arith, ◌≤◌, refl}
+use Rattle.std.proofs.Common.{◌≡◌, ◌+◌, ◌-◌, ◌<◌, ℕ, List, Option, IfSome, length, take, drop, sym, ◌∙◌, ap, subst, arith, ◌≤◌, refl, not-le_of_lt, le_antisymm}
 use Rattle.std.proofs.lemmas.Result.{err_from_is_err_and}
 use Rattle.fl_page.specs.Header.{page_count}
 use Rattle.fl_var.specs.Blobs.{IsWhole, contents_from, AreThere}
@@ -18,7 +18,7 @@ use Rattle.fl_frame.proofs.ContentsInTurn.{OnlyReads-same}
 use Rattle.fl_page.specs.Page.{bad_page}
 use Rattle.fl_var.specs.Reading.{pages_left}
 use Rattle.fl_var.proofs.PageLooks.{page-headed}
-use Rattle.fl_var.proofs.Readers.{least, some-left, no-more, all-given, not-further, present-still, one-more-read, ends-behind, uncommitted-bad, later-bad}
+use Rattle.fl_var.proofs.Readers.{least, some-left, not-further, present-still, one-more-read, ends-behind, uncommitted-bad, later-bad}
 use Rattle.fl_var.proofs.reader.BlobReader.turn.Goals as goal
 
 pub returns-in_err-used-clause-whole : goal.returns-in_err-used-clause-whole
@@ -28,7 +28,7 @@ returns-in_err-used-clause-whole g c = λ reads whole.
     let f = g.F.Flash.state c.args.flash.now in
     let h = g.F.Flash.state c.find_content.new.flash in
     let done : page_count (image_in c.args.self.now.var.now (g.F.Flash.state c.args.flash.now) c.args.self.now.page) ≡ c.args.self.now.end =
-    sym (reads.used (some-left r.left c.requires.left)) ∙ all-given r.end r.used r.before c.if-self.false in
+    sym (reads.used (some-left r.left c.requires.left)) ∙ le_antisymm c.if-self.false r.before in
     let is = whole (some-left r.left c.requires.left) in
     let good = whole-good (image_in v f) (next_in v) (room_in v) r.page r.end r.left is done c.requires.left in
     let p = err_from_is_err_and c.from_residual.result c.from_residual.ensures.1 in (
@@ -42,7 +42,7 @@ returns-in_default-clause-whole g c = λ reads whole.
     let v = r.var.now in
     let f = g.F.Flash.state c.args.flash.now in
     let done : page_count (image_in c.args.self.now.var.now (g.F.Flash.state c.args.flash.now) c.args.self.now.page) ≡ c.args.self.now.end =
-    sym (reads.used (some-left r.left c.requires.left)) ∙ all-given r.end r.used r.before c.if-self.false in
+    sym (reads.used (some-left r.left c.requires.left)) ∙ le_antisymm c.if-self.false r.before in
     let is = whole (some-left r.left c.requires.left) in
     let good = whole-good (image_in v f) (next_in v) (room_in v) r.page r.end r.left is done c.requires.left in
     let other = c.in_ok-used.ensures.none reads.told c.in_default.is in
@@ -55,7 +55,7 @@ returns-clause-bytes g c = λ reads.
     let f = g.F.Flash.state c.args.flash.now in
     let h = g.F.Flash.state c.find_content.new.flash in
     let done : length (content_of (image_in c.args.self.now.var.now (g.F.Flash.state c.args.flash.now) c.args.self.now.page)) ≡ c.args.self.now.end =
-    reads.size (some-left r.left c.requires.left) ∙ all-given r.end r.used r.before c.if-self.false in
+    reads.size (some-left r.left c.requires.left) ∙ le_antisymm c.if-self.false r.before in
     ap (λ (image : ℕ → List ℕ). take r.left (drop 0 (contents_from image (r.page + 1) (next_in v + 1 - (r.page + 1))))) (images-same v f h 1 c.find_content.ensures.reads)
     ∙ contents-turned (image_in v f) (next_in v) r.page r.end r.left reads.within done
 
@@ -66,7 +66,7 @@ returns-clause-whole g c = λ reads whole.
     let f = g.F.Flash.state c.args.flash.now in
     let h = g.F.Flash.state c.find_content.new.flash in
     let done : page_count (image_in c.args.self.now.var.now (g.F.Flash.state c.args.flash.now) c.args.self.now.page) ≡ c.args.self.now.end =
-    sym (reads.used (some-left r.left c.requires.left)) ∙ all-given r.end r.used r.before c.if-self.false in
+    sym (reads.used (some-left r.left c.requires.left)) ∙ le_antisymm c.if-self.false r.before in
     let is = whole (some-left r.left c.requires.left) in
     let wide : 0 < room_in c.args.self.now.var.now = omega (arith, v.served.page_least) in (
       tt,
@@ -80,7 +80,7 @@ returns-clause-few g c = λ reads whole.
     let v = r.var.now in
     let f = g.F.Flash.state c.args.flash.now in
     let done : page_count (image_in c.args.self.now.var.now (g.F.Flash.state c.args.flash.now) c.args.self.now.page) ≡ c.args.self.now.end =
-    sym (reads.used (some-left r.left c.requires.left)) ∙ all-given r.end r.used r.before c.if-self.false in
+    sym (reads.used (some-left r.left c.requires.left)) ∙ le_antisymm c.if-self.false r.before in
     let is = whole (some-left r.left c.requires.left) in
     let wide : 0 < room_in c.args.self.now.var.now = omega (arith, v.served.page_least) in
     let pages = whole-pages (image_in v f) (next_in v) (room_in v) r.page r.end r.left is done c.requires.left wide in
@@ -92,7 +92,7 @@ returns-clause-most g c = λ reads whole.
     let v = r.var.now in
     let f = g.F.Flash.state c.args.flash.now in
     let done : page_count (image_in c.args.self.now.var.now (g.F.Flash.state c.args.flash.now) c.args.self.now.page) ≡ c.args.self.now.end =
-    sym (reads.used (some-left r.left c.requires.left)) ∙ all-given r.end r.used r.before c.if-self.false in
+    sym (reads.used (some-left r.left c.requires.left)) ∙ le_antisymm c.if-self.false r.before in
     let is = whole (some-left r.left c.requires.left) in
     let wide : 0 < room_in c.args.self.now.var.now = omega (arith, v.served.page_least) in
     let pages = whole-pages (image_in v f) (next_in v) (room_in v) r.page r.end r.left is done c.requires.left wide in
@@ -123,7 +123,7 @@ returns-clause-sound g c = λ reads there some.
     let f = g.F.Flash.state c.args.flash.now in
     let h = g.F.Flash.state c.find_content.new.flash in
     let images = images-same v f h 1 c.find_content.ensures.reads in
-    let done : length (content_of (image_in c.args.self.now.var.now (g.F.Flash.state c.args.flash.now) c.args.self.now.page)) ≡ c.args.self.now.end = reads.size some ∙ all-given r.end r.used r.before c.if-self.false in
+    let done : length (content_of (image_in c.args.self.now.var.now (g.F.Flash.state c.args.flash.now) c.args.self.now.page)) ≡ c.args.self.now.end = reads.size some ∙ le_antisymm c.if-self.false r.before in
     let good = subst (λ (found : Option ℕ). IfSome found (λ n. HasContent (r.page + 1) (image_in v f (r.page + 1)) × (n ≡ page_count (image_in v f (r.page + 1))))) c.in-Some.is (c.in_ok-used.ensures.good reads.told) in
     let within = before-end r.page (next_in v) reads.within (λ end. c.if-self-next_number.false (end ∙ sym c.next_number.ensures)) in
     there-turned (image_in v f) (next_in v) r.page r.end r.left done (within, good.0)
@@ -136,7 +136,7 @@ returns-clause-ahead g c = λ reads bad ahead.
     let f = g.F.Flash.state c.args.flash.now in
     let h = g.F.Flash.state c.find_content.new.flash in
     let done : length (content_of (image_in c.args.self.now.var.now (g.F.Flash.state c.args.flash.now) c.args.self.now.page)) ≡ c.args.self.now.end =
-    reads.size (some-left r.left c.requires.left) ∙ all-given r.end r.used r.before c.if-self.false in
+    reads.size (some-left r.left c.requires.left) ∙ le_antisymm c.if-self.false r.before in
     let good = subst (λ (found : Option ℕ). IfSome found (λ n. HasContent (r.page + 1) (image_in v f (r.page + 1)) × (n ≡ page_count (image_in v f (r.page + 1))))) c.in-Some.is (c.in_ok-used.ensures.good reads.told) in
     let within = before-end r.page (next_in v) reads.within (λ end. c.if-self-next_number.false (end ∙ sym c.next_number.ensures)) in
     bad-turned v f r.page r.end r.left bad done (within, good.0) (bad-seen v f h (images-same v f h 1 c.find_content.ensures.reads) (r.page + 1) (0 + r.left) bad ahead)
@@ -258,16 +258,16 @@ pub returns-then-self-clause-few : goal.returns-then-self-clause-few
 returns-then-self-clause-few g c = λ reads whole. le_refl ((g.F.Flash.state c.args.flash.now).work.reads + pages_left c.args.self.now)
 
 pub returns-then-self-next_number-clause-held : goal.returns-then-self-next_number-clause-held
-returns-then-self-next_number-clause-held g c = λ some. absurd (no-more c.args.self.now.end c.args.self.now.used some c.if-self.false)
+returns-then-self-next_number-clause-held g c = λ some. absurd (not-le_of_lt some c.if-self.false)
 
 pub returns-in_err-used-clause-held : goal.returns-in_err-used-clause-held
-returns-in_err-used-clause-held g c = λ some. absurd (no-more c.args.self.now.end c.args.self.now.used some c.if-self.false)
+returns-in_err-used-clause-held g c = λ some. absurd (not-le_of_lt some c.if-self.false)
 
 pub returns-in_default-clause-held : goal.returns-in_default-clause-held
-returns-in_default-clause-held g c = λ some. absurd (no-more c.args.self.now.end c.args.self.now.used some c.if-self.false)
+returns-in_default-clause-held g c = λ some. absurd (not-le_of_lt some c.if-self.false)
 
 pub returns-clause-held : goal.returns-clause-held
-returns-clause-held g c = λ some. absurd (no-more c.args.self.now.end c.args.self.now.used some c.if-self.false)
+returns-clause-held g c = λ some. absurd (not-le_of_lt some c.if-self.false)
 
 pub returns-then-self-next_number-clause-bad : goal.returns-then-self-next_number-clause-bad
 returns-then-self-next_number-clause-bad g c = λ told. ends-behind c.args.self.now.var.now (g.F.Flash.state c.args.flash.now) c.args.self.now.page c.end_fault.result (c.if-self-next_number.true ∙ c.next_number.ensures) c.end_fault.ensures
@@ -275,7 +275,7 @@ returns-then-self-next_number-clause-bad g c = λ told. ends-behind c.args.self.
 pub returns-then-self-next_number-clause-whole : goal.returns-then-self-next_number-clause-whole
 returns-then-self-next_number-clause-whole g c =
     λ reads whole.
-    let done : page_count (image_in c.args.self.now.var.now (g.F.Flash.state c.args.flash.now) c.args.self.now.page) ≡ c.args.self.now.end = sym (reads.used (some-left c.args.self.now.left c.requires.left)) ∙ (all-given c.args.self.now.end c.args.self.now.used c.args.self.now.before c.if-self.false) in
+    let done : page_count (image_in c.args.self.now.var.now (g.F.Flash.state c.args.flash.now) c.args.self.now.page) ≡ c.args.self.now.end = sym (reads.used (some-left c.args.self.now.left c.requires.left)) ∙ (le_antisymm c.if-self.false c.args.self.now.before) in
     absurd (not-further c.args.self.now.page (next_in c.args.self.now.var.now) (c.if-self-next_number.true ∙ c.next_number.ensures)
     (whole-good (image_in c.args.self.now.var.now (g.F.Flash.state c.args.flash.now)) (next_in c.args.self.now.var.now) (room_in c.args.self.now.var.now) c.args.self.now.page c.args.self.now.end c.args.self.now.left (whole (some-left c.args.self.now.left c.requires.left)) done c.requires.left).0)
 
@@ -343,7 +343,7 @@ returns-in_err-used-clause-ready g c =
       within = reads.within;
       used = λ left. reads.used left ∙ ap (λ (image : ℕ → List ℕ). page_count (image c.args.self.now.page)) (sym (images-same c.args.self.now.var.now (g.F.Flash.state c.args.flash.now) (g.F.Flash.state c.find_content.new.flash) 1 c.find_content.ensures.reads));
       size = λ left. ap (λ (image : ℕ → List ℕ). length (content_of (image c.args.self.now.page))) (images-same c.args.self.now.var.now (g.F.Flash.state c.args.flash.now) (g.F.Flash.state c.find_content.new.flash) 1 c.find_content.ensures.reads) ∙ reads.size left;
-      bytes = λ more lt. absurd (no-more c.args.self.now.end c.args.self.now.used more c.if-self.false);
+      bytes = λ more lt. absurd (not-le_of_lt more c.if-self.false);
     }
 
 pub returns-in_err-used-clause-bytes : goal.returns-in_err-used-clause-bytes
@@ -352,7 +352,7 @@ returns-in_err-used-clause-bytes g c = λ reads. ap (λ (image : ℕ → List �
 pub returns-in_err-used-clause-most : goal.returns-in_err-used-clause-most
 returns-in_err-used-clause-most g c =
     λ reads whole.
-    let done : page_count (image_in c.args.self.now.var.now (g.F.Flash.state c.args.flash.now) c.args.self.now.page) ≡ c.args.self.now.end = sym (reads.used (some-left c.args.self.now.left c.requires.left)) ∙ (all-given c.args.self.now.end c.args.self.now.used c.args.self.now.before c.if-self.false) in
+    let done : page_count (image_in c.args.self.now.var.now (g.F.Flash.state c.args.flash.now) c.args.self.now.page) ≡ c.args.self.now.end = sym (reads.used (some-left c.args.self.now.left c.requires.left)) ∙ (le_antisymm c.if-self.false c.args.self.now.before) in
     one-more-read c.args.self.now.left c.args.self.now.end (room_in c.args.self.now.var.now) _ _ c.requires.left (whole-further (image_in c.args.self.now.var.now (g.F.Flash.state c.args.flash.now)) (next_in c.args.self.now.var.now) (room_in c.args.self.now.var.now) c.args.self.now.page c.args.self.now.end c.args.self.now.left (whole (some-left c.args.self.now.left c.requires.left)) done c.requires.left) c.find_content.ensures.reads.reads
 
 pub returns-in_default-clause-empty : goal.returns-in_default-clause-empty
@@ -365,7 +365,7 @@ returns-in_default-clause-ready g c =
       within = reads.within;
       used = λ left. reads.used left ∙ ap (λ (image : ℕ → List ℕ). page_count (image c.args.self.now.page)) (sym (images-same c.args.self.now.var.now (g.F.Flash.state c.args.flash.now) (g.F.Flash.state c.find_content.new.flash) 1 c.find_content.ensures.reads));
       size = λ left. ap (λ (image : ℕ → List ℕ). length (content_of (image c.args.self.now.page))) (images-same c.args.self.now.var.now (g.F.Flash.state c.args.flash.now) (g.F.Flash.state c.find_content.new.flash) 1 c.find_content.ensures.reads) ∙ reads.size left;
-      bytes = λ more lt. absurd (no-more c.args.self.now.end c.args.self.now.used more c.if-self.false);
+      bytes = λ more lt. absurd (not-le_of_lt more c.if-self.false);
     }
 
 pub returns-in_default-clause-bytes : goal.returns-in_default-clause-bytes
@@ -374,7 +374,7 @@ returns-in_default-clause-bytes g c = λ reads. ap (λ (image : ℕ → List ℕ
 pub returns-in_default-clause-most : goal.returns-in_default-clause-most
 returns-in_default-clause-most g c =
     λ reads whole.
-    let done : page_count (image_in c.args.self.now.var.now (g.F.Flash.state c.args.flash.now) c.args.self.now.page) ≡ c.args.self.now.end = sym (reads.used (some-left c.args.self.now.left c.requires.left)) ∙ (all-given c.args.self.now.end c.args.self.now.used c.args.self.now.before c.if-self.false) in
+    let done : page_count (image_in c.args.self.now.var.now (g.F.Flash.state c.args.flash.now) c.args.self.now.page) ≡ c.args.self.now.end = sym (reads.used (some-left c.args.self.now.left c.requires.left)) ∙ (le_antisymm c.if-self.false c.args.self.now.before) in
     one-more-read c.args.self.now.left c.args.self.now.end (room_in c.args.self.now.var.now) _ _ c.requires.left (whole-further (image_in c.args.self.now.var.now (g.F.Flash.state c.args.flash.now)) (next_in c.args.self.now.var.now) (room_in c.args.self.now.var.now) c.args.self.now.page c.args.self.now.end c.args.self.now.left (whole (some-left c.args.self.now.left c.requires.left)) done c.requires.left) c.find_content.ensures.reads.reads
 
 pub returns-in_err-used-clause-some : goal.returns-in_err-used-clause-some

@@ -11,10 +11,10 @@ use Rattle.fl_var.specs.Placing.{is_full_in, pages_placed}
 use Rattle.fl_var.specs.declared.var_data.VarData.{VarData}
 use Rattle.fl_frame.proofs.WatchedInTurn.{watched-first}
 use Rattle.fl_var.proofs.Placed.{joined-has, joined-bytes, buffered-room, watched-second, place-none, place-err, place-breaks_room, place-breaks, placed-whole, room-for, full-placed, next-split, oldest-split, reads-split, waits-split, waits-none, placed-none, room-writes, writes-split}
-use Rattle.fl_var.proofs.Lists.{some-there}
 use Rattle.fl_var.proofs.BufferedBytes.{cause-err, off-err, ok-on, lost-on}
 use Rattle.std.proofs.Math.Nat.{le-add_right}
 use Rattle.fl_base.specs.declared.types.BlobRef.{BlobRef}
+use Rattle.fl_base.proofs.Tests.{some_from}
 use Rattle.fl_var.proofs.ByMemory.{none-there, left-one, left-then, reference-none, reference-mid, plan-then, outside-then, err-done, done-err}
 use Rattle.fl_var.proofs.var_data.VarData.append.Goals as goal
 
@@ -29,7 +29,7 @@ returns-in_err-make_room-clause-ends g c = λ plan item table rose device watche
     let f = g.F.Flash.state c.args.flash.now in
     let h = g.F.Flash.state c.make_room.new.flash in
     let bytes = c.args.bytes.now in
-    let some : 1 ≤ length c.args.bytes.now = some-there (length c.args.bytes.now) c.is_empty.result c.is_empty.ensures c.if-is_empty.false in
+    let some : 1 ≤ length c.args.bytes.now = some_from (length c.args.bytes.now) (sym c.is_empty.ensures ∙ c.if-is_empty.false) in
     let p = err_from_is_err_and c.from_residual.result c.from_residual.ensures.1 in
     place-err plan item table rose device v f c.from_residual.result _ h c.in_err-make_room.field-0.0 (p.1 ∙ ap (λ (x : FlashFault). Err x) p.2)
     (place-breaks_room v f plan item table bytes stands blob_is some h rose device c.in_err-make_room.field-0.0
@@ -44,7 +44,7 @@ returns-in_err-write-clause-ends g c = λ plan item table rose device watched st
     let h = g.F.Flash.state c.write.new.flash in
     let bytes = c.args.bytes.now in
     let e = c.in_ok-make_room.ensures in
-    let some : 1 ≤ length c.args.bytes.now = some-there (length c.args.bytes.now) c.is_empty.result c.is_empty.ensures c.if-is_empty.false in
+    let some : 1 ≤ length c.args.bytes.now = some_from (length c.args.bytes.now) (sym c.is_empty.ensures ∙ c.if-is_empty.false) in
     let second = c.in_err-write.ensures.goes in
     let a = e.ends plan (with_record plan item table) bytes rose device (watched-first f mid_f h rose device watched second) (joined-has v f plan item table bytes stands blob_is) (joined-bytes v f plan item table bytes stands blob_is) in
     let p = err_from_is_err_and c.from_residual-in_err-write.result c.from_residual-in_err-write.ensures.1 in
@@ -70,7 +70,7 @@ returns-clause-ends g c = λ plan item table rose device watched stands blob_is.
     let bytes = c.args.bytes.now in
     let e = c.in_ok-make_room.ensures in
     let w = c.in_ok-write.ensures in
-    let some : 1 ≤ length c.args.bytes.now = some-there (length c.args.bytes.now) c.is_empty.result c.is_empty.ensures c.if-is_empty.false in
+    let some : 1 ≤ length c.args.bytes.now = some_from (length c.args.bytes.now) (sym c.is_empty.ensures ∙ c.if-is_empty.false) in
     let a = e.ends plan (with_record plan item table) bytes rose device (watched-first f mid_f h rose device watched w.goes) (joined-has v f plan item table bytes stands blob_is) (joined-bytes v f plan item table bytes stands blob_is) in
     let b = w.ends plan _ rose a.now.device (watched-second v f plan item table bytes stands blob_is mid some e.same e.waits mid_f h rose device watched e.goes a) a.has
     (buffered-room v f plan item table bytes stands blob_is mid some e.same e.waits) in
@@ -88,7 +88,7 @@ returns-clause-power g c = elim c.in_ok-write.ensures.power [
 pub returns-clause-quiet : goal.returns-clause-quiet
 returns-clause-quiet g c = λ room.
     let v = c.args.self.now in
-    let some : 1 ≤ length c.args.bytes.now = some-there (length c.args.bytes.now) c.is_empty.result c.is_empty.ensures c.if-is_empty.false in
+    let some : 1 ≤ length c.args.bytes.now = some_from (length c.args.bytes.now) (sym c.is_empty.ensures ∙ c.if-is_empty.false) in
     let left = room-for v (length c.args.bytes.now) some room in
     let still = c.in_ok-make_room.ensures.quiet left.0 in
     let none : pages_placed c.make_room.new.self (length c.args.bytes.now) ≡ 0 = ap (λ (x : VarData). pages_placed x (length c.args.bytes.now)) still.1 ∙ left.1 in
@@ -103,7 +103,7 @@ returns-then-is_empty-clause-waits g c =
 
 pub returns-clause-waits : goal.returns-clause-waits
 returns-clause-waits g c =
-    let some : 1 ≤ length c.args.bytes.now = some-there (length c.args.bytes.now) c.is_empty.result c.is_empty.ensures c.if-is_empty.false in
+    let some : 1 ≤ length c.args.bytes.now = some_from (length c.args.bytes.now) (sym c.is_empty.ensures ∙ c.if-is_empty.false) in
     let e = c.in_ok-make_room.ensures in
     waits-split c.args.self.now c.make_room.new.self c.args.bytes.now some e.same e.waits (waiting_in c.write.new.self) c.in_ok-write.ensures.waits
 
@@ -114,7 +114,7 @@ returns-then-is_empty-clause-oldest g c =
 
 pub returns-clause-oldest : goal.returns-clause-oldest
 returns-clause-oldest g c =
-    let some : 1 ≤ length c.args.bytes.now = some-there (length c.args.bytes.now) c.is_empty.result c.is_empty.ensures c.if-is_empty.false in
+    let some : 1 ≤ length c.args.bytes.now = some_from (length c.args.bytes.now) (sym c.is_empty.ensures ∙ c.if-is_empty.false) in
     let e = c.in_ok-make_room.ensures in
     oldest-split c.args.self.now c.make_room.new.self c.args.bytes.now some e.same e.waits c.write.new.self e.next e.oldest c.in_ok-write.ensures.oldest
 
@@ -125,13 +125,13 @@ returns-then-is_empty-clause-next g c =
 
 pub returns-clause-next : goal.returns-clause-next
 returns-clause-next g c =
-    let some : 1 ≤ length c.args.bytes.now = some-there (length c.args.bytes.now) c.is_empty.result c.is_empty.ensures c.if-is_empty.false in
+    let some : 1 ≤ length c.args.bytes.now = some_from (length c.args.bytes.now) (sym c.is_empty.ensures ∙ c.if-is_empty.false) in
     let e = c.in_ok-make_room.ensures in
     next-split c.args.self.now c.make_room.new.self c.args.bytes.now some e.same e.waits (next_in c.write.new.self) e.next c.in_ok-write.ensures.next
 
 pub returns-in_err-make_room-clause-media_reads : goal.returns-in_err-make_room-clause-media_reads
 returns-in_err-make_room-clause-media_reads g c =
-    let some : 1 ≤ length c.args.bytes.now = some-there (length c.args.bytes.now) c.is_empty.result c.is_empty.ensures c.if-is_empty.false in
+    let some : 1 ≤ length c.args.bytes.now = some_from (length c.args.bytes.now) (sym c.is_empty.ensures ∙ c.if-is_empty.false) in
     elim (cases_Bool (is_full_in c.args.self.now)) [
       | inl full ↦ omega (arith, c.in_err-make_room.ensures.media_reads, full-placed c.args.self.now c.args.bytes.now some full)
       | inr not_full ↦ absurd (err-done c.in_err-make_room.field-0.0 (c.in_err-make_room.ensures.quiet not_full).0)
@@ -139,20 +139,20 @@ returns-in_err-make_room-clause-media_reads g c =
 
 pub returns-in_err-write-clause-media_reads : goal.returns-in_err-write-clause-media_reads
 returns-in_err-write-clause-media_reads g c =
-    let some : 1 ≤ length c.args.bytes.now = some-there (length c.args.bytes.now) c.is_empty.result c.is_empty.ensures c.if-is_empty.false in
+    let some : 1 ≤ length c.args.bytes.now = some_from (length c.args.bytes.now) (sym c.is_empty.ensures ∙ c.if-is_empty.false) in
     let e = c.in_ok-make_room.ensures in
     reads-split c.args.self.now c.make_room.new.self c.args.bytes.now some e.same e.waits _ _ _ (λ not_full. ap (λ (x : FlashState). x.media.reads) (e.quiet not_full).2) e.media_reads c.in_err-write.ensures.media_reads
 
 pub returns-clause-media_reads : goal.returns-clause-media_reads
 returns-clause-media_reads g c =
-    let some : 1 ≤ length c.args.bytes.now = some-there (length c.args.bytes.now) c.is_empty.result c.is_empty.ensures c.if-is_empty.false in
+    let some : 1 ≤ length c.args.bytes.now = some_from (length c.args.bytes.now) (sym c.is_empty.ensures ∙ c.if-is_empty.false) in
     let e = c.in_ok-make_room.ensures in
     reads-split c.args.self.now c.make_room.new.self c.args.bytes.now some e.same e.waits _ _ _ (λ not_full. ap (λ (x : FlashState). x.media.reads) (e.quiet not_full).2) e.media_reads c.in_ok-write.ensures.media_reads
 
 pub returns-in_err-write-clause-quiet : goal.returns-in_err-write-clause-quiet
 returns-in_err-write-clause-quiet g c = λ room.
     let v = c.args.self.now in
-    let some : 1 ≤ length c.args.bytes.now = some-there (length c.args.bytes.now) c.is_empty.result c.is_empty.ensures c.if-is_empty.false in
+    let some : 1 ≤ length c.args.bytes.now = some_from (length c.args.bytes.now) (sym c.is_empty.ensures ∙ c.if-is_empty.false) in
     let left = room-for v (length c.args.bytes.now) some room in
     let still = c.in_ok-make_room.ensures.quiet left.0 in
     let none : pages_placed c.make_room.new.self (length c.args.bytes.now) ≡ 0 = ap (λ (x : VarData). pages_placed x (length c.args.bytes.now)) still.1 ∙ left.1 in
@@ -220,18 +220,18 @@ returns-then-is_empty-clause-writes g c = writes-none (IsOnRing c.args.self.now)
 
 pub returns-in_err-make_room-clause-writes : goal.returns-in_err-make_room-clause-writes
 returns-in_err-make_room-clause-writes g c =
-    let some : 1 ≤ length c.args.bytes.now = some-there (length c.args.bytes.now) c.is_empty.result c.is_empty.ensures c.if-is_empty.false in
+    let some : 1 ≤ length c.args.bytes.now = some_from (length c.args.bytes.now) (sym c.is_empty.ensures ∙ c.if-is_empty.false) in
     room-writes c.args.self.now c.args.bytes.now some _ _ c.in_err-make_room.ensures.writes
 
 pub returns-in_err-write-clause-writes : goal.returns-in_err-write-clause-writes
 returns-in_err-write-clause-writes g c =
-    let some : 1 ≤ length c.args.bytes.now = some-there (length c.args.bytes.now) c.is_empty.result c.is_empty.ensures c.if-is_empty.false in
+    let some : 1 ≤ length c.args.bytes.now = some_from (length c.args.bytes.now) (sym c.is_empty.ensures ∙ c.if-is_empty.false) in
     let e = c.in_ok-make_room.ensures in
     writes-split c.args.self.now c.make_room.new.self c.args.bytes.now some e.same e.waits _ _ _ e.goes.tells e.writes c.in_err-write.ensures.writes
 
 pub returns-clause-writes : goal.returns-clause-writes
 returns-clause-writes g c =
-    let some : 1 ≤ length c.args.bytes.now = some-there (length c.args.bytes.now) c.is_empty.result c.is_empty.ensures c.if-is_empty.false in
+    let some : 1 ≤ length c.args.bytes.now = some_from (length c.args.bytes.now) (sym c.is_empty.ensures ∙ c.if-is_empty.false) in
     let e = c.in_ok-make_room.ensures in
     writes-split c.args.self.now c.make_room.new.self c.args.bytes.now some e.same e.waits _ _ _ e.goes.tells e.writes c.in_ok-write.ensures.writes
 
@@ -316,7 +316,7 @@ returns-in_err-make_room-clause-oldest g c =
 pub returns-in_err-make_room-clause-quiet : goal.returns-in_err-make_room-clause-quiet
 returns-in_err-make_room-clause-quiet g c =
     λ room.
-    let left = room-for c.args.self.now (length c.args.bytes.now) (some-there (length c.args.bytes.now) c.is_empty.result c.is_empty.ensures c.if-is_empty.false) room in
+    let left = room-for c.args.self.now (length c.args.bytes.now) (some_from (length c.args.bytes.now) (sym c.is_empty.ensures ∙ c.if-is_empty.false)) room in
     absurd (err-done c.in_err-make_room.field-0.0 (c.in_err-make_room.ensures.quiet left.0).0)
 
 pub returns-in_err-make_room-clause-cause : goal.returns-in_err-make_room-clause-cause
@@ -400,7 +400,7 @@ pub write-requires-clause-lies : goal.write-requires-clause-lies
 write-requires-clause-lies g c = c.make_room.ensures.lies
 
 pub write-requires-clause-some : goal.write-requires-clause-some
-write-requires-clause-some g c = some-there (length c.args.bytes.now) c.is_empty.result c.is_empty.ensures c.if-is_empty.false
+write-requires-clause-some g c = some_from (length c.args.bytes.now) (sym c.is_empty.ensures ∙ c.if-is_empty.false)
 
 pub write-requires-clause-few : goal.write-requires-clause-few
 write-requires-clause-few g c = c.requires.few

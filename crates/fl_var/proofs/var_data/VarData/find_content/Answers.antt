@@ -1,5 +1,4 @@
-use Rattle.std.proofs.Common.{rules, ◌≡◌, ◌^◌, ◌<◌, ◌≤◌, length, sym, ◌∙◌, Err, ℕ, Option, IfSome, List, refl, ap, subst}
-use Rattle.fl_var.specs.Memory.{waiting_in}
+use Rattle.std.proofs.Common.{rules, ◌≡◌, ◌^◌, ◌<◌, ◌≤◌, length, sym, ◌∙◌, Err, ℕ, Option, IfSome, List, refl, ap, subst, pos_of_ne-zero}
 use Rattle.fl_var.proofs.PageImages.{next-state, next-count, next-has, next-bad}
 use Rattle.fl_page.proofs.ReadsInTurn.{IsCaused-read}
 use Rattle.fl_frame.proofs.ContentsInTurn.{OnlyReads-read, OnlyReads-same}
@@ -18,7 +17,6 @@ use Rattle.fl_page.specs.Header.{page_count}
 use Rattle.fl_page.specs.Page.{bad_page}
 use Rattle.fl_var.specs.Content.{HasContent}
 use Rattle.fl_var.proofs.PageLooks.{lies-later, before-next, not-behind, no-less, page-sized, next-within, page-within, bytes-page, bytes-image}
-use Rattle.fl_var.proofs.Lists.{not-none}
 use Rattle.fl_var.proofs.var_data.VarData.find_content.Goals as goal
 
 pub returns-then-len-eq0-clause-bad : goal.returns-then-len-eq0-clause-bad
@@ -38,7 +36,7 @@ returns-then-number-next_number-clause-good g c = λ told.
     let is = c.if-number-next_number.true ∙ c.next_number.ensures in
     let small : c.args.number < 2 ^ 32 = search rules in
     let same = ap length c.content-len.ensures.content in
-    let some = not-none (length (waiting_in v)) (λ e. c.if-len-eq0.false (same ∙ e)) in
+    let some = pos_of_ne-zero (λ e. c.if-len-eq0.false (same ∙ e)) in
     (next-has v f c.args.number small is some, same ∙ sym (next-count v f c.args.number small is))
 
 pub returns-in-Err-clause-counts : goal.returns-in-Err-clause-counts

@@ -6,7 +6,7 @@ use Rattle.fl_ring.specs.Numbers.{renumbered}
 use Rattle.fl_ring.specs.declared.fault.RingFault.{RingFault}
 use Rattle.fl_var.proofs.States.{state_of}
 use Rattle.std.proofs.lemmas.Result.{err_from_is_err_and}
-use Rattle.fl_var.proofs.MountsInTable.{few-read, good, mount-well, mount-badly, mount-fault, mount-err}
+use Rattle.fl_var.proofs.MountsInTable.{few-read, good, mount-well, mount-badly, mount-fault}
 use Rattle.fl_var.proofs.SealsInTable.{pages-size}
 use Rattle.fl_var.proofs.var_data.VarData.mount.Goals as goal
 
@@ -24,8 +24,8 @@ returns-in_err-ring-clause-ends g c = λ plan table rose device watched rests le
     let is_good = subst (λ (x : Geometry). IsGood f (shape_at v.place x) c.args.at_least s) (sym lies.geometry) (good v f h plan table c.args.at_least rests least_is sizes later watched.told) in
     let ends = subst (λ (x : Geometry). ring_mounting.MountEnds (shape_at v.place x) rose device (renumbered (shape_at v.place x) c.args.at_least s) (Err e) h) lies.geometry (c.in_err-ring.ensures.mounts.ends s rose device is_good watched) in
     let p = err_from_is_err_and c.from_residual.result c.from_residual.ensures.1 in
-    mount-err plan table rose device v _ h c.from_residual.result e (p.1 ∙ ap (λ (x : RingFault). Err x) p.2)
-    (mount-fault plan table rose device v _ h _ _ e ends (λ fault. mount-badly v f h plan table c.args.at_least rests least_is sizes later rose device fault v))
+    mount-fault plan table rose device v _ h _ _ c.from_residual.result e (p.1 ∙ ap (λ (x : RingFault). Err x) p.2) ends
+    (λ fault. mount-badly v f h plan table c.args.at_least rests least_is sizes later rose device fault v)
 
 pub returns-clause-ends : goal.returns-clause-ends
 returns-clause-ends g c = λ plan table rose device watched rests least_is.

@@ -7,7 +7,8 @@ use Rattle.fl_schema.specs.Schema.{row_of, bytes_of}
 use Rattle.fl_page.specs.Page.{row_at}
 use Rattle.fl_page.specs.Steps.{Ascends}
 use Rattle.fl_page.specs.View.{page_of, layout_of_page, count_of, rows_of}
-use Rattle.fl_storage_tests.proofs.RowsLeft.{rows_from-end, drop-first, Ascends-first}
+use Rattle.fl_page.proofs.RowsFrom.{drop-row}
+use Rattle.fl_storage_tests.proofs.RowsLeft.{rows_from-end, Ascends-first}
 use Rattle.fl_storage_tests.proofs.operators.page_rows.PageRowsRows.step.Goals as goal
 
 -- the last row was given
@@ -48,5 +49,5 @@ returns-clause-steps g c = λ told.
     = ap (λ (layout : RowLayout). row_in layout (bytes_of c.row.result)) c.row.ensures.layout
     ∙ ap (λ (bytes : List ℕ). row_in (layout_of_page view) bytes) c.row.ensures.bytes
     ∙ ap (λ (i : ℕ). row_in (layout_of_page view) (row_at (layout_of_page view) (page_of view) i)) (sym back) in
-    drop-first (rows_of view) c.args.self.now.next (row_of c.row.result) c.row.ensures.row
+    drop-row (rows_of view) c.args.self.now.next (row_of c.row.result) c.row.ensures.row
     ∙ ap (λ (row : Row). row ∷ drop (c.args.self.now.next + 1) (rows_of view)) same

@@ -22,6 +22,7 @@ pub record IsAccepted (plan : Plan) (table : Table) (item : Record) : Type 0 whe
   pub values : first_misfit 1 plan.columns item.values ≡ None
   pub blob : (bytes : List ℕ) → item.blob ≡ Some bytes → IsTrue (has_var plan) × (length bytes ≤ plan.blob_limit)
   pub left : table.rows.next < spent_from
+  pub unspent : is_rows_spent table ≡ false
 
 pub accepted : (plan : Plan) (table : Table) (item : Record) → refusal_of plan table item ≡ None → IsAccepted plan table item
 accepted plan table item h =
@@ -38,16 +39,17 @@ accepted plan table item h =
       blob = λ bytes e. with_blob bytes (has_var plan) refl
           (subst (λ (o : Option (List ℕ)). (is_some o && (not (has_var plan) || nat_lt (cond (has_var plan) plan.blob_limit 0) (unwrap_or (option_map (λ (xs : List ℕ). length xs) o) 0))) ≡ false) e
           (not_refused (is_some item.blob && (not (has_var plan) || nat_lt (cond (has_var plan) plan.blob_limit 0) (blob_len item))) (BadBlob (cond (has_var plan) plan.blob_limit 0)) d.0));
-      left =
-          let n = or_left (nat_le spent_from table.rows.next) (unwrap_or (option_map (λ ring. nat_le spent_from ring.next) table.index) false)
-          (or_left (nat_le spent_from table.rows.next || unwrap_or (option_map (λ ring. nat_le spent_from ring.next) table.index) false) (unwrap_or (option_map (λ ring. nat_le spent_from ring.next) table.var) false)
-          (or_left (is_rows_spent table || is_ring_spent table.var) (is_ring_spent table.log) (not_refused (is_spent table) Spent d.1))) in
-          omega (arith, leb-false spent_from table.rows.next n);
+      left = let n = or_left (nat_le spent_from table.rows.next) (is_ring_spent table.index) (rows_left d.1) in omega (arith, leb-false spent_from table.rows.next n);
+      unspent = rows_left d.1;
     }
   where
     or_left : (a b : Bool) → (a || b) ≡ false → a ≡ false
     or_left true b e = cc
     or_left false b e = refl
+
+    rows_left : refuse_if (is_spent table) Spent ≡ None → is_rows_spent table ≡ false
+    rows_left e =
+        or_left (is_rows_spent table) (is_ring_spent table.var) (or_left (is_rows_spent table || is_ring_spent table.var) (is_ring_spent table.log) (not_refused (is_spent table) Spent e))
 
     above : (o : Option Entry) → unwrap_or (option_map (λ last. refuse_if (nat_le item.key last.kept.key) (BadKey last.kept.key)) o) None ≡ None → (last : Entry) → o ≡ Some last → last.kept.key < item.key
     above None e last k = absurd (none-some last k)

@@ -1,27 +1,15 @@
 -- A source that is read to its end.
-use Rattle.std.proofs.Common.{◌≡◌, ℕ, zero, suc, ◌+◌, ◌-◌, ◌<◌, ◌≤◌, Option, Some, Ok, List, [], ◌∷◌, ◌++◌, length, take, drop, refl, sym, ◌∙◌, ap, append-nil, arith}
-use Rattle.std.proofs.Math.Seq.{drop-nil, take-add, take-append-add}
-use Rattle.std.proofs.lemmas.List.{length-append, length-drop, length-take-le, take-append-drop, take-append-le}
+use Rattle.std.proofs.Common.{◌≡◌, ℕ, ◌+◌, ◌-◌, ◌<◌, ◌≤◌, Option, Some, Ok, Err, List, [], ◌++◌, length, take, drop, refl, sym, ◌∙◌, ap, append-nil, arith}
+use Rattle.std.proofs.Math.Seq.{take-add, take-append-add}
+use Rattle.std.proofs.lemmas.List.{drop-drop, length-append, length-drop, length-take-le, take-append-drop, take-append-le}
 use borrow.Rule.Slice.PartMut.{put_mid}
 use Rattle.fl_base.specs.Stream.{Reads, TakesFirst}
-
-drop-add : (n m : ℕ) (xs : List ℕ) → drop (n + m) xs ≡ drop m (drop n xs)
-drop-add zero m xs =
-    let e : 0 + m ≡ m = omega arith in
-    ap (λ (k : ℕ). drop k xs) e
-drop-add (suc n) m [] = drop-nil (suc n + m) ∙ sym (drop-nil m)
-drop-add (suc n) m (x ∷ xs) =
-    let e : suc n + m ≡ suc (n + m) = omega arith in
-    ap (λ (k : ℕ). drop k (x ∷ xs)) e ∙ drop-add n m xs
 
 -- so many bytes of a text were read, and stand at the front of the room
 pub record SoFar (text : List ℕ) (left : Option (List ℕ)) (len : ℕ) (room : List ℕ) : Type 0 where
   pub fits : len ≤ length text
   pub here : take len room ≡ take len text
   pub rest : left ≡ Some (drop len text)
-
-pub so-far-none : (text : List ℕ) (left : Option (List ℕ)) (room : List ℕ) → left ≡ Some text → SoFar text left 0 room
-so-far-none text left room is = record { fits = omega arith; here = refl; rest = is }
 
 -- more of them were read behind those
 pub so-far-more : (E : Type 0) (text : List ℕ) (left left_now : Option (List ℕ)) (len count : ℕ) (room part behind now : List ℕ) → SoFar text left len room → len ≤ length room → count ≤ length part → Reads {E = E} left left_now (Ok count) part
@@ -35,8 +23,16 @@ so-far-more E text left left_now len count room part behind now so_far fits few 
     record {
       fits = omega (arith, so_far.fits, took.fits, length-drop len text);
       here = ap (take (len + count)) is ∙ front ∙ ap (λ (l : List ℕ). l ++ take count part) so_far.here ∙ ap (λ (l : List ℕ). take len text ++ l) took.bytes ∙ sym (take-add len count text);
-      rest = took.rest ∙ ap (λ (l : List ℕ). Some l) (sym (drop-add len count text));
+      rest = took.rest ∙ ap (λ (l : List ℕ). Some l) (drop-drop count len text);
     }
+
+-- a read at the end takes none
+pub so-far-ended : (E : Type 0) (text : List ℕ) (left left_now : Option (List ℕ)) (len : ℕ) (room part : List ℕ) → SoFar text left len room → Reads {E = E} left left_now (Ok 0) part → left_now ≡ Some (drop len text)
+so-far-ended E text left left_now len room part so_far reads = let took : TakesFirst (drop len text) left_now 0 part = rw so_far.rest at reads in took.rest
+
+-- .. and so does one that failed
+pub so-far-failed : (E : Type 0) (text : List ℕ) (left left_now : Option (List ℕ)) (len : ℕ) (room part : List ℕ) (e : E) → SoFar text left len room → Reads {E = E} left left_now (Err e) part → left_now ≡ Some (drop len text)
+so-far-failed E text left left_now len room part e so_far reads = rw so_far.rest at reads
 
 -- .. and none more where the source has ended
 pub so-far-all : (E : Type 0) (text : List ℕ) (left left_now : Option (List ℕ)) (len : ℕ) (room part behind now : List ℕ) → SoFar text left len room → len ≤ length room → 0 < length part → Reads {E = E} left left_now (Ok 0) part
